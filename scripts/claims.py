@@ -28,8 +28,6 @@ MOST_WORDS_OF_A_COMMENT = 40
 FIGURE = re.compile(r"(?P<number>\d[\d,]*(?:\.\d+)?)\** ?(?:µs|ns|ms|%|a second)|\bof (?P<many>\d{1,3}(?:,\d{3})+)\b")
 # How many lines of code the service may have with which EMBEDDING begins, without blank ones and comments.
 MOST_LINES_OF_FIRST = 120
-# Where a crate uses one of a layer above its own, until that is mended. The second does so only because the first does.
-WAYS_UP = {("txc_txn", "txc_functions"), ("txc_external_receipts", "txc_functions")}
 # A word in capitals stands for any name, in a path that a document names.
 ANY_NAME = r"(?<![A-Za-z_])[A-Z]{2,}(?![A-Za-z_]|\.md\b)"
 # The commands of scripts, with which a line of a session begins.
@@ -207,10 +205,8 @@ def layered():
             yield file, f"has {crate} in no layer"
         if not sources.purpose(crate):
             yield sources.root_file(crate), "does not begin with what the crate does"
-    for crate, it in sorted(ways - WAYS_UP):
+    for crate, it in sorted(ways):
         yield file, f"has {crate}, which uses {it} of a layer above"
-    for crate, it in sorted(WAYS_UP - ways):
-        yield ROOT / "scripts/claims.py", f"lists the way up from {crate} to {it}, which is mended"
 
 
 def promised():
@@ -242,7 +238,7 @@ def settings():
         for name, value in re.findall(r"^pub const (MAX_\w+): \w+ = ([\d_]+);", path.read_text(), re.M):
             limits[name] = int(value)
     ranges = re.findall(r'"(\w+)" => Some\(\((\d), (MAX_\w+)', (crate / "keys.rt").read_text())
-    defaults = dict(re.findall(r'setting\(&table, "(\w+)", ([\d_]+)\)', (crate / "read.rt").read_text()))
+    defaults = dict(re.findall(r'setting\(&table, "(\w+)", ([\d_]+)\)', (crate / "settings.rt").read_text()))
     wanted = {key: (f"{least} to {limits[most]}", str(int(defaults[key]))) for key, least, most in ranges}
     rows = re.findall(r"^\| `(\w+)` \|[^|]*\| (\d+ to \d+) \| (\d+) \|$", document.read_text(), re.M)
     shown = {key: (reach, default) for key, reach, default in rows}

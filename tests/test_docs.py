@@ -61,9 +61,8 @@ class Links(unittest.TestCase):
 class Layers(unittest.TestCase):
     LAYERS = (sources.Layer("values", "", ["txc_stamp"]), sources.Layer("stores", "", ["txc_db"]))
 
-    def faults(self, used: dict[str, list[str]], ways: set[tuple[str, str]] = frozenset()) -> list[str]:
-        with mock.patch.object(sources, "layers", return_value=self.LAYERS), mock.patch.object(sources, "used", return_value=used), \
-                mock.patch.object(claims, "WAYS_UP", set(ways)):
+    def faults(self, used: dict[str, list[str]]) -> list[str]:
+        with mock.patch.object(sources, "layers", return_value=self.LAYERS), mock.patch.object(sources, "used", return_value=used):
             return [said for _, said in claims.layered()]
 
     def test_a_crate_uses_its_own_layer_and_those_below(self):
@@ -71,11 +70,6 @@ class Layers(unittest.TestCase):
 
     def test_a_crate_that_uses_one_above(self):
         self.assertEqual(self.faults({"txc_stamp": ["txc_db"], "txc_db": []}), ["has txc_stamp, which uses txc_db of a layer above"])
-
-    def test_a_way_up_that_is_listed_and_one_that_is_mended(self):
-        way = {("txc_stamp", "txc_db")}
-        self.assertEqual(self.faults({"txc_stamp": ["txc_db"], "txc_db": []}, way), [])
-        self.assertEqual(self.faults({"txc_stamp": [], "txc_db": []}, way), ["lists the way up from txc_stamp to txc_db, which is mended"])
 
     def test_a_crate_in_no_layer(self):
         self.assertEqual(self.faults({"txc_stamp": [], "txc_db": [], "txc_tags": []}), ["has txc_tags in no layer"])

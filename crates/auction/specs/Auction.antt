@@ -1,4 +1,4 @@
--- The functions of the auction: what each asks, and gives, by its arguments and the answers so far.
+-- The functions of the auction: the next ask of each, or its value, by its arguments and the answers so far.
 use Rattle.std.specs.Prelude.{ℕ, ◌==◌, if◌then◌else◌, List, [], ◌∷◌, ◌++◌, Option, Some, None}
 use Rattle.txc_site.specs.Keys.{Call as CallValue}
 use Rattle.txc_site.specs.Values.{RowValue}
@@ -79,6 +79,6 @@ refuses args given = None
 abbrev pub auction_functions : ℕ → List ℕ → List Answer → Option Ask
 auction_functions f = if f == 0 then highest_bid else (if f == 1 then item_page else (if f == 2 then items_of else refuses))
 
--- what they mean, within small limits
+-- their meaning, within small limits
 abbrev pub auction : Next
 auction = record { says = auction_functions; limits = small_limits }

@@ -1,4 +1,4 @@
--- What the pages of the auction show.
+-- The contents of the auction's pages.
 use Rattle.std.specs.Prelude.{◌≡◌, ℕ, List, [], ◌∷◌, ◌++◌}
 use Rattle.txc_site.specs.Recorded.{Recorded}
 use Rattle.auction.specs.Auction.{call_with_argument}

@@ -1,9 +1,9 @@
--- What visitors did and saw.
+-- The counts of the visitors.
 use Rattle.std.specs.Prelude.{◌≡◌, ℕ, ◌+◌, ◌-◌, ◌^◌, min, false}
 use Rattle.auction.specs.declared.arguments.Arguments.{Arguments}
 use Rattle.auction.specs.declared.tally.Tally.{Tally}
 
--- how many pages were asked for
+-- the number of pages requested
 abbrev pub pages_of : Tally → ℕ
 pages_of t = t.whole + t.torn + t.refused
 
@@ -15,7 +15,8 @@ added m n = min (m + n) (2 ^ 64 - 1)
 abbrev pub CountsBids : Tally → Tally → Type 0
 CountsBids old new = new ≡ record old { bids = new.bids; conflicts = new.conflicts; raised = new.raised; last = new.last }
 
--- so many pages were asked for; and none that was shown was torn, where both calls of a page were made in one transaction
+-- this many pages were requested; none that was shown was torn, if both calls of a page were made in one
+-- transaction
 pub record HasTallied (pages : ℕ) (arguments : Arguments) (t : Tally) : Type 0 where
   pub asked : pages_of t ≡ pages
   pub whole : arguments.is_plain ≡ false → t.torn ≡ 0

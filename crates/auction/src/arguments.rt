@@ -1,21 +1,22 @@
-//! What the program is asked to do.
+//! The arguments of the program.
 
-/// What is asked: by the words `THREADS PAGES SEED STALENESS GENERATIONS [--plain] [--unstored]`, each of which may be left out.
+/// The arguments: the words `THREADS PAGES SEED STALENESS GENERATIONS [--plain] [--unstored]`, each of which
+/// may be left out.
 #[derive(Clone, Copy)]
 pub struct Arguments {
     pub threads: u8,
     pub pages: u32,
     pub seed: u32,
     pub staleness: u32,
-    /// How often the visitors come again, after the first generation.
+    /// The number of generations after the first one.
     pub returns: u8,
-    /// Whether each call has a transaction of its own.
+    /// `true` if each call has a transaction of its own.
     pub is_plain: bool,
-    /// Whether the site's events are not stored.
+    /// `true` if the site's events are not stored.
     pub is_unstored: bool,
 }
 
-/// The number that stands at a place, or another.
+/// Returns the number at a place, or another one.
 fn number(words: &[String], at: usize, other: u32) -> u32 {
     match words.get(at) {
         Some(word) => word.parse().unwrap_or(other),
@@ -36,7 +37,7 @@ impl Arguments {
         }
     }
 
-    /// How many of the site's events are stored.
+    /// Returns how many of the site's events are stored.
     pub fn events(&self) -> Option<usize> {
         if self.is_unstored { None } else { Some(2048) }
     }

@@ -1,4 +1,4 @@
-//! What is written: the first rows, and bids.
+//! Changes: the first rows, and bids.
 ghost use Rattle.std.specs.Prelude.{◌≡◌, ◌++◌, ◌∷◌, [], IfOk, OnOk, string_bytes};
 ghost use Rattle.txc_site.specs.Change.TheVariants.{Put};
 ghost use Rattle.txc_site.specs.Values.{IsBody};
@@ -11,10 +11,10 @@ use std::str;
 use std::sync::Wait;
 use txc_site::{Change, ChangeTxn, Naming, Row, RunError, Table, Value};
 
-/// How many items there are.
+/// Number of items.
 pub const ITEM_COUNT: u32 = 8;
 
-/// How many users there are.
+/// Number of users.
 pub const USER_COUNT: u32 = 3;
 
 /// The amount of the first bid on each item.
@@ -22,7 +22,7 @@ pub const FIRST_BID: u32 = 10;
 
 type Writing<'a, J> = ChangeTxn<'a, Auction, AuctionFunction, J>;
 
-/// The row with that body is to stand in the table.
+/// Buffers a put of the row with that body.
 fn put<J: Naming>(
     txn: &mut Writing<'_, J>,
     table: Table,
@@ -54,7 +54,7 @@ fn title(alloc: Global, item: u32) -> Result<String, AllocError>
     format!(in alloc; "item{item}")
 }
 
-/// The text of a bid, such as `120:user1`.
+/// Returns the text of a bid, such as `120:user1`.
 fn bid_text(alloc: Global, amount: u32, user: u32) -> Result<String, AllocError>
     ensures answer { IfOk result (λ text. string_bytes text ≡ text_of amount user) }
     ensures body { IfOk result (λ text. IsBody (string_bytes text)) }
@@ -62,7 +62,7 @@ fn bid_text(alloc: Global, amount: u32, user: u32) -> Result<String, AllocError>
     format!(in alloc; "{amount}:user{user}")
 }
 
-/// The amount of a bid.
+/// Returns the amount of a bid.
 pub fn amount_of(bid: &Value) -> u32 {
     let text = str::from_utf8(bid.bytes()).unwrap_or("");
     let (amount, _user) = text.split_once(':').unwrap_or(("", ""));
@@ -97,7 +97,7 @@ impl Change<Auction, AuctionFunction> for Opening {
     }
 }
 
-/// Bids so much more than the highest bid on an item.
+/// Raises the highest bid on an item by `more`.
 #[derive(Drop)]
 pub struct Bid {
     pub item: u32,

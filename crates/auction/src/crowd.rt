@@ -1,4 +1,4 @@
-//! The visitors, who read pages and bid, each on a thread.
+//! The visitors, which read pages and bid, each on a thread.
 ghost use Rattle.std.specs.Prelude.{◌≡◌, ◌+◌, ◌<◌, ◌^◌, false, IfSome};
 ghost use Rattle.auction.specs.Pages.{IsWhole};
 ghost use Rattle.auction.specs.Tallies.{pages_of, CountsBids};
@@ -18,14 +18,14 @@ use txc_site::{
 /// A visitor's client.
 type Guest<'a, J> = SiteClient<'a, Auction, AuctionFunction, J>;
 
-/// How often a bid is tried, and the last page.
+/// The number of tries of a bid, and of the last page.
 const TRIES: u32 = 8;
 
-/// How many rounds a pin stays.
+/// The number of rounds that a pin is kept.
 const AGE: u64 = 16;
 
-/// A round of a visitor, who visits an item. Time is his own: the number of the round, so that one visitor
-/// alone does the same in each run.
+/// A round of a visitor at an item. Its time is the number of the round, so that a single visitor does the same
+/// in each run.
 #[derive(Clone, Copy)]
 struct Round {
     item: u32,
@@ -39,7 +39,7 @@ pub struct Crowd {
 }
 
 impl Crowd {
-    /// What a page of the round may show: nothing that is too old, or older than the stamp.
+    /// Returns the bounds of a page of the round: its age and its stamp.
     fn bounds(&self, round: Round, at_least: Stamp) -> Bounds
         ensures { result ≡ record { now = round.now; staleness = self.now.arguments.staleness; at_least = at_least } }
     {
@@ -47,7 +47,7 @@ impl Crowd {
         Bounds::fresh_since(u64::from(round.now), staleness, at_least)
     }
 
-    /// Bids on the item. Returns the stamp of the bid, where it was made.
+    /// Bids on the item. Returns the stamp of the bid, if it was made.
     fn bid<'a, J: Naming, R: Wait>(
         &self,
         rt: &R,
@@ -70,7 +70,7 @@ impl Crowd {
         }
     }
 
-    /// The item's highest bid and its page, read in one transaction: the page shows that bid, whatever others
+    /// Reads the item's highest bid and its page in one transaction: the page shows that bid, whatever others
     /// bid meanwhile.
     fn page<'a, J: Naming, R: Wait>(
         &self,
@@ -90,7 +90,8 @@ impl Crowd {
         }
     }
 
-    /// Both read in a transaction each, the page not before a bid that this visitor makes in between.
+    /// Reads each in a transaction of its own; the page reads no state before a bid that this visitor makes in
+    /// between.
     fn plain_page<'a, J: Naming, R: Wait>(
         &self,
         rt: &R,
@@ -125,7 +126,7 @@ impl Crowd {
         (Some(both), client)
     }
 
-    /// Both, read as the arguments say.
+    /// Reads both in one transaction or in two, by the arguments.
     fn both<'a, J: Naming, R: Wait>(
         &self,
         rt: &R,
@@ -163,7 +164,7 @@ impl Crowd {
         client
     }
 
-    /// The sum of all highest bids in a state that is not before this stamp. None where the page is refused.
+    /// Returns the sum of all highest bids in a state at this stamp or later, or `None` if the page fails.
     fn last_page<'a, J: Naming, R: Wait>(
         &self,
         rt: &R,
@@ -183,7 +184,7 @@ impl Crowd {
         }
     }
 
-    /// The same. Where the page is refused, it is asked for again, some times.
+    /// Returns the sum as `last_page` does. If the page fails, it is tried again, up to [`TRIES`] times.
     fn see<J: Naming, R: Wait>(
         &self,
         rt: &R,
@@ -203,7 +204,7 @@ impl Crowd {
     }
 }
 
-/// Keeps the site, where the visitor has a keeper.
+/// Runs the maintenance, if the visitor has a keeper.
 fn keep<'a, J: Naming, R: Wait>(
     rt: &R,
     alloc: Global,
@@ -222,7 +223,7 @@ fn keep<'a, J: Naming, R: Wait>(
     Some(keeper)
 }
 
-/// Counts how often the nodes were asked by then, and how often that had an answer.
+/// Counts the lookups at the nodes so far, and their hits.
 fn count_lookups<J: Naming, R: Wait>(rt: &R, client: &mut Guest<'_, J>, tally: &mut Tally)
     ensures { tally.new ≡ record tally.old { lookups = tally.new.lookups; hits = tally.new.hits } }
 {
@@ -238,7 +239,7 @@ impl Visitor<Auction, AuctionFunction> for Crowd {
 
     ghost gives = { λ crowd plan row number tally. HasTallied crowd.arguments.pages crowd.arguments tally };
 
-    /// The first visitor keeps the site, and counts what its nodes did.
+    /// The first visitor runs the maintenance, and counts the lookups at the nodes.
     fn visit<J: Naming + Send + Sync, R: Wait>(
         &self,
         rt: &R,

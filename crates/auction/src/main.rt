@@ -23,7 +23,7 @@ use std::thread::Threads;
 use tally::{Tally, grand_total};
 use txc_site::{Plan, with_generations};
 
-/// Opens the site with the first rows, and lets the visitors come, generation after generation.
+/// Opens the site with the first rows, and runs the visitors, generation after generation.
 fn hold<R: Threads + Wait + Sync>(
     rt: &R,
     alloc: Global,
@@ -64,7 +64,7 @@ fn main(rt: HostRuntime) -> anyhow::Result<()> {
             )?;
         }
     }
-    // The rest is not the same in each run.
+    // The other counts differ from run to run.
     eprintln!(rt;
         "{} bids that raised by {}, {} conflicts, kept {} times",
         all.bids, all.raised, all.conflicts, all.kept

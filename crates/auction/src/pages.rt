@@ -1,4 +1,4 @@
-//! What visitors read: an item's highest bid and its page, in one transaction or in two.
+//! Pages of visitors: an item's highest bid and its page, in one transaction or in two.
 ghost use Rattle.std.specs.Prelude.{◌≡◌, ◌≤◌, ◌↔◌, IsTrue};
 ghost use Rattle.auction.specs.Auction.{call_with_argument};
 ghost use Rattle.auction.specs.Pages.{IsWhole};
@@ -8,7 +8,7 @@ use std::alloc::Global;
 use std::sync::Wait;
 use txc_site::{Begun, Key, Naming, Page, PageTxn, RunError, Value};
 
-/// The call of a function with one argument.
+/// Returns the call of a function with one argument.
 pub fn key(function: u8, id: u32) -> Key
     requires { function ≤ 2 }
     ensures { result ≡ call_with_argument function id }
@@ -27,7 +27,7 @@ pub struct BothBids {
 }
 
 impl BothBids {
-    /// Whether the page shows that highest bid, at its end.
+    /// Returns `true` if the page shows that highest bid, at its end.
     pub fn is_whole(&self) -> bool
         ensures { IsTrue result ↔ IsWhole self.now }
     {

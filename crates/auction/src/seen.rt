@@ -1,4 +1,4 @@
-//! What a visitor sees last: the sum of all highest bids, after each bid of its own.
+//! The last page of a visitor: the sum of all highest bids, after each bid of its own.
 ghost use Rattle.std.specs.Prelude.{◌≡◌, ◌⊎◌, ◌≤◌, MatchOption};
 
 use crate::changes::{ITEM_COUNT, amount_of};
@@ -16,7 +16,7 @@ pub struct Seen {
 }
 
 impl Seen {
-    /// What the page showed; none where it made no call.
+    /// Returns the sum and the stamp of the page, or `None` if the page made no call.
     pub fn by(shown: &Shown<u64>) -> Option<Seen>
         ensures { MatchOption shown.now.receipt.pin (result ≡ None)
             (λ pin. result ≡ Some (record { stamp = pin.stamp; sum = shown.now.output })) }
@@ -30,7 +30,7 @@ impl Seen {
         }
     }
 
-    /// The later one of two.
+    /// Returns the later one of two.
     pub fn later(self, other: Seen) -> Seen
         ensures either { (result ≡ self) ⊎ (result ≡ other) }
         ensures one { self.stamp ≤ result.stamp }

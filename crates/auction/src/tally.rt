@@ -1,4 +1,4 @@
-//! What visitors did and saw.
+//! Counts of the visitors' work.
 ghost use Rattle.std.specs.Prelude.{◌≡◌, ◌+◌, ◌*◌, ◌<◌, ◌^◌, ◌-ℤ◌, pos, IfSome, MatchOption, vec_len};
 ghost use Rattle.std.specs.List.{sum_by};
 ghost use Rattle.auction.specs.Pages.{IsWhole};
@@ -9,7 +9,7 @@ use crate::pages::BothBids;
 use crate::seen::Seen;
 use txc_site::{Stamp, Written};
 
-/// What visitors did and saw.
+/// Counts of the visitors' work.
 #[derive(Clone, Copy)]
 pub struct Tally {
     pub whole: u64,
@@ -20,16 +20,16 @@ pub struct Tally {
     pub kept: u64,
     pub lookups: u64,
     pub hits: u64,
-    /// By how much the bids that were made raised the highest ones.
+    /// The amount by which the bids that were made raised the highest ones.
     pub raised: u64,
     /// The stamp of a visitor's last bid.
     pub last: Stamp,
-    /// What was seen last, after all bids; none where that was refused.
+    /// The last sum that was read, after all bids, or `None` if that failed.
     pub seen: Option<Seen>,
 }
 
 impl Tally {
-    /// Nothing yet.
+    /// Counts of no work.
     pub const ZERO: Tally = Tally {
         whole: 0,
         torn: 0,
@@ -44,7 +44,7 @@ impl Tally {
         seen: None,
     };
 
-    /// Counts a page, or that one was refused.
+    /// Counts a page, or a failed one.
     pub fn count(&mut self, page: Option<BothBids>)
         requires { pages_of self.old < 2 ^ 32 }
         ensures pages { pages_of self.new ≡ pages_of self.old + 1 }
@@ -62,7 +62,7 @@ impl Tally {
         }
     }
 
-    /// Counts a bid of so much more that was made, with the conflicts before it. Returns its stamp.
+    /// Counts a bid that raised the highest one by `more`, with the conflicts before it. Returns its stamp.
     pub fn count_bid(&mut self, more: u32, written: &Written<u32>) -> Stamp
         ensures counts { CountsBids self.old self.new }
         ensures bids { self.new.bids ≡ added self.old.bids 1 }
@@ -80,7 +80,7 @@ impl Tally {
         self.last
     }
 
-    /// Adds what others did and saw, but for what each of them did or saw last.
+    /// Adds the counts of other visitors, without their last stamps and sums.
     pub fn add(&mut self, others: &Tally)
         requires { pages_of self.old + pages_of others.now < 2 ^ 64 }
         ensures pages { pages_of self.new ≡ pages_of self.old + pages_of others.now }
@@ -98,8 +98,8 @@ impl Tally {
         self.raised = self.raised.saturating_add(others.raised);
     }
 
-    /// By how much the first bids, and all that raised them, are more than what was seen: a bid that
-    /// was made and is not in that state was lost. None where nothing was seen.
+    /// Returns by how much the first bids and all raises exceed the last sum: a difference is a bid that was
+    /// made and lost. Returns `None` if there is no last sum.
     pub fn lost(&self) -> Option<i128>
         ensures { MatchOption self.now.seen (result ≡ None)
             (λ seen. result ≡ Some (pos (ITEM_COUNT * FIRST_BID + self.now.raised) -ℤ pos seen.sum)) }
@@ -110,8 +110,8 @@ impl Tally {
     }
 }
 
-/// What the visitors of one generation saw last. The page of the greatest stamp shows the bids of all: whose
-/// bid was the last has seen it. None where one of them was refused, since that may be the one.
+/// Returns the last sum of one generation. The page of the greatest stamp shows the bids of all, since the last
+/// bidder has read it. Returns `None` if one of them failed, since that may be the one.
 fn last_seen(tallies: &[Tally]) -> Option<Seen> {
     let mut last = tallies.first()?.seen?;
     for tally in tallies {
@@ -120,7 +120,7 @@ fn last_seen(tallies: &[Tally]) -> Option<Seen> {
     Some(last)
 }
 
-/// What visitors did and saw in all, but for what each of them did or saw last.
+/// Returns the counts of all these visitors, without their last stamps and sums.
 pub fn total(tallies: &[Tally]) -> Tally
     requires { sum_by pages_of tallies.now < 2 ^ 64 }
     ensures pages { pages_of result ≡ sum_by pages_of tallies.now }
@@ -133,8 +133,8 @@ pub fn total(tallies: &[Tally]) -> Tally
     all
 }
 
-/// What the visitors of all generations did and saw. What was seen last is what those of the last one saw, whose bids
-/// stand on those of the others.
+/// Returns the counts of the visitors of all generations. The last sum is that of the last generation, whose
+/// bids are on top of the others'.
 pub fn grand_total(generations: &[Vec<Tally>]) -> Tally
     requires { sum_by (λ tallies. sum_by pages_of tallies.items) generations.now < 2 ^ 64 }
     ensures pages { pages_of result ≡ sum_by (λ tallies. sum_by pages_of tallies.items) generations.now }

@@ -1,4 +1,4 @@
--- The functions of the shop: what each asks, in turn, and the list that it gives.
+-- The functions of the shop: the asks of each, in turn, and the list that is its value.
 use Rattle.std.specs.Prelude.{ℕ, ◌==◌, if◌then◌else◌, List, [], ◌∷◌, ◌++◌, None}
 use Rattle.txc_site.specs.Keys.{Call as CallValue}
 use Rattle.txc_site.specs.Values.{RowValue}
@@ -25,7 +25,8 @@ shop_number ProductPage = 1
 abbrev pub shop_call : Shop → List ℕ → CallValue
 shop_call function args = record { function = shop_number function; args = args }
 
--- what a function asks, in turn: the pieces in stock, of all products or of one; these, by a call, and those that are ordered
+-- the asks of a function, in turn: for the pieces in stock, of all products or of one; or for these, by a call,
+-- and the ordered pieces
 abbrev pub shop_asks : Shop → List ℕ → List Ask
 shop_asks Stock [] = Query (All STOCK) ∷ []
 shop_asks Stock (product ∷ []) = Query (ByGroup STOCK product) ∷ []
@@ -41,7 +42,7 @@ abbrev pub bodies_of_answer : Answer → List ℕ
 bodies_of_answer (Rows rows) = joined_bodies rows
 bodies_of_answer (Value value) = []
 
--- what a function gives by its answers: the bodies of the rows; after a value and a bar, where it called
+-- the value of a function by its answers: the bodies of the rows; after a value and a bar if it made a call
 abbrev pub piece_list : List Answer → List ℕ
 piece_list (Value stock ∷ last ∷ []) = stock ++ 124 ∷ bodies_of_answer last
 piece_list (Rows rows ∷ last ∷ []) = bodies_of_answer last
@@ -59,6 +60,6 @@ no_function args answers = None
 abbrev pub shop_functions : ℕ → Says
 shop_functions f = if f == 0 then shop_says Stock else (if f == 1 then shop_says ProductPage else no_function)
 
--- what they mean, within small limits
+-- their meaning, within small limits
 abbrev pub shop : Next
 shop = record { says = shop_functions; limits = small_limits }

@@ -1,4 +1,4 @@
--- What is written, and what a visitor gives.
+-- The changes of the shop, and the output of a visitor.
 use Rattle.std.specs.Prelude.{◌≡◌, ℕ, zero, suc, ◌*◌, ◌%◌, ◌≤◌, Bool, true, false, List, [], ◌∷◌, ◌++◌, length}
 use Rattle.txc_site.specs.Values.{RowValue}
 use Rattle.txc_site.specs.Change.{Change}
@@ -11,12 +11,13 @@ use Rattle.shop.specs.declared.Trade.{Trade}
 use Rattle.shop.specs.declared.Trade.TheVariants.{Opening, Purchase}
 use Rattle.shop.specs.declared.TheConstants.{ORDERS, PIECES, PRODUCTS, STOCK}
 
--- the first pieces are put in stock, so many of them, one of each product in turn
+-- the first `id` pieces are put in stock, one of each product in turn
 unfoldable pub first_pieces : ℕ → List Change
 first_pieces zero = []
 first_pieces (suc id) = first_pieces id ++ Put (piece_row STOCK id (id % PRODUCTS)) ∷ []
 
--- the first of these pieces of the product leaves the stock, and is ordered; where there is none, nothing is written
+-- the first of these pieces of the product moves from the stock to the orders; without a piece nothing is
+-- written
 abbrev pub purchase_of : ℕ → List RowValue → List Change
 purchase_of product [] = []
 purchase_of product (piece ∷ others) = Remove STOCK piece.id ∷ Put (piece_row ORDERS piece.id product) ∷ []
@@ -25,7 +26,7 @@ abbrev pub has_piece : List RowValue → Bool
 has_piece [] = false
 has_piece (piece ∷ others) = true
 
--- the stock of the product was asked for, and one piece of it was bought, where there was one
+-- the stock of the product was queried, and one piece of it was bought, if there was one
 pub record WritesPurchase (product : ℕ) (core : RwValue) (bought : Bool) : Type 0 where
   pub stock : List RowValue
   pub asked : core.answers ≡ Rows (ByGroup STOCK product) stock ∷ []
@@ -36,7 +37,7 @@ abbrev pub WritesTrade : Trade → RwValue → Bool → Type 0
 WritesTrade Opening core bought = core.changes ≡ first_pieces (PRODUCTS * PIECES)
 WritesTrade (Purchase product) core bought = WritesPurchase product core bought
 
--- no more pages were torn, and no more pieces were bought, than so many
+-- at most `pages` pages were torn, and at most as many pieces were bought
 pub record HasVisited (pages : ℕ) (came : ℕ × ℕ) : Type 0 where
   pub torn : came.0 ≤ pages
   pub bought : came.1 ≤ pages

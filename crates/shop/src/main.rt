@@ -1,4 +1,5 @@
-//! A shop with stock. Arguments: how many visitors come, each on a thread, and how many pieces each would buy.
+//! A shop with stock. Arguments: the number of visitors, each on a thread, and how many pieces each tries to
+//! buy.
 #![tactic(auto)]
 
 ghost use Rattle.std.specs.Prelude.{◌≡◌, ◌≤◌, [], ◌∷◌, IfOk};
@@ -12,12 +13,12 @@ use txc_site::{
     OneCall, Plan, Query, Row, RunError, SiteClient, Stamp, Straight, Table, Visitor, with_site,
 };
 
-/// How many products there are, and how many pieces of each in the beginning.
+/// The number of products, and of pieces of each in the beginning.
 const PRODUCTS: u32 = 8;
 
 const PIECES: usize = 15;
 
-/// The tables. A piece is a row of the one or the other, in the group of its product.
+/// The tables. A piece is a row of one of them, in the group of its product.
 const STOCK: u8 = 1;
 
 const ORDERS: u8 = 2;
@@ -35,8 +36,8 @@ fn piece(alloc: Global, table: Table, id: u32, product: u32) -> Result<Row, Allo
     Ok(Row::new(table, id, product, vec![in alloc; b'*']?).unwrap())
 }
 
-/// The shop's functions. Each lists pieces, as a star for each: those in stock, of a product or of all; and, for the page
-/// of a product, these, a bar, and those that are ordered.
+/// The shop's functions. Each lists pieces, as a star for each: those in stock, of a product or of all. The
+/// page of a product lists these, a bar, and the ordered ones.
 #[derive(Clone, Copy)]
 enum Shop {
     Stock,
@@ -110,7 +111,7 @@ impl Application<Turn> for Shop {
     }
 }
 
-/// What is written: all pieces are put in stock; or one of a product is ordered, if there is one.
+/// The changes: all pieces are put in stock; or one of a product is ordered, if there is one.
 #[derive(Drop)]
 enum Trade {
     Opening,
@@ -146,12 +147,13 @@ impl Change<Shop, Turn> for Trade {
     }
 }
 
-/// Each visitor would buy so many pieces. After each, the page of the product is to have all of its pieces, and a bar: else it is torn.
+/// Visitors, each of which tries to buy this many pieces. After each purchase, the page of the product must
+/// have all of its pieces, and a bar: otherwise it is torn.
 #[derive(Drop)]
 struct Visitors(u32);
 
 impl Visitor<Shop, Turn> for Visitors {
-    /// How many pages were torn, and how many pieces were bought. The first visitor keeps the site.
+    /// The number of torn pages, and of bought pieces. The first visitor runs the maintenance.
     type Output = (u32, u32);
 
     ghost gives = { λ visitors plan row number. HasVisited visitors.0 };

@@ -1,4 +1,4 @@
--- What holds over a reach of a history, and the queries that it rests on.
+-- Claims that hold over a reach of a history, and the queries on which they depend.
 use Rattle.std.specs.Prelude.{ℕ, Bool, true, ◌≡◌, ◌≤◌, List, [], ◌∷◌, length, Option, Some, None}
 use Rattle.std.specs.List.{list_all}
 use Rattle.txc_stamp.specs.Interval.{Interval, Holds}
@@ -16,8 +16,8 @@ use Rattle.txc_app.specs.Eval.{Next, eval, met}
 abbrev pub covers_all : List Tag → List Query → Bool
 covers_all set queries = list_all (covers_query set) queries
 
--- `right` holds of the state of each stamp of the reach, and, where the reach is still valid, the tags
--- cover there each query that it rests on
+-- `right` holds of the state of each stamp of the reach, and, if the reach is still valid, the tags cover each
+-- query on which it depends there
 pub record HoldsIn (L : History) (right : State → Type 0) (rests : State → List Query)
     (reach : Interval) (tags : List Tag) : Type 0 where
   pub within : reach.known ≤ length L

@@ -1,4 +1,4 @@
--- What a call gives in a state, without a cache.
+-- The uncached value of a call in a state.
 use Rattle.std.specs.Prelude.{ℕ, zero, suc, ◌==◌, nat_le, if◌then◌else◌, List, [], ◌∷◌, ◌++◌, length, Option, Some, None}
 use Rattle.txc_tags.specs.Keys.{Call}
 use Rattle.txc_rows.specs.declared.query.Query.{Query}
@@ -11,8 +11,9 @@ use Rattle.txc_app.specs.declared.ask.Ask.TheVariants as asks
 use Rattle.txc_app.specs.declared.ask.Answer.{Answer}
 use Rattle.txc_app.specs.declared.ask.Answer.TheVariants as answers
 
--- what an application means: what a function asks next, or gives, by its number, its arguments and the answers
--- so far, and none where it refuses the arguments; and the most bytes of a value and asks of an activation
+-- The meaning of an application: the next step of a function, by its number, its arguments and the answers so
+-- far; none if it does not take the arguments. Also the most bytes of a value, and the most steps of an
+-- activation.
 pub record Next : Type 0 where
   pub says : ℕ → List ℕ → List Answer → Option Ask
   pub limits : Limits
@@ -21,16 +22,16 @@ pub record Next : Type 0 where
 abbrev pub small_limits : Limits
 small_limits = record { value = MAX_VALUE_LEN; asks = MAX_ASKS }
 
--- what a call gives: its value, where it has one, and the queries met on the way
+-- the evaluation of a call: its value, if it has one, and the queries met on the way
 pub record Evaluation : Type 0 where
   pub value : Option (List ℕ)
   pub met : List Query
 
--- how queries are answered
+-- answers of queries
 abbrev pub Rows : Type 0
 Rows = Query → List RowValue
 
--- what calls give
+-- evaluations of calls
 abbrev pub Calls : Type 0
 Calls = Call → Evaluation
 
@@ -38,7 +39,7 @@ Calls = Call → Evaluation
 abbrev pub no_value : Evaluation
 no_value = record { value = None; met = [] }
 
--- done, with these bytes, of which there may be so many; too many bytes are no value
+-- done, with these bytes, at most `most`; too many bytes are no value
 abbrev pub done_with : ℕ → List ℕ → Evaluation
 done_with most bytes = record { value = if nat_le (length bytes) most then Some bytes else None; met = [] }
 
@@ -59,13 +60,13 @@ after_ask most rows calls (Some (asks.Query q)) rest = after_meeting (q ∷ []) 
 after_ask most rows calls (Some (asks.Call k)) rest =
     after_meeting (calls k).met (after_value (calls k).value rest)
 
--- an activation that may make so many asks more, after these answers; being done is an ask too
+-- an activation with a limit on its further steps, after these answers; being done is a step too
 unfoldable pub activation : ℕ → (List Answer → Option Ask) → Rows → Calls → ℕ → List Answer → Evaluation
 activation most says rows calls zero given = no_value
 activation most says rows calls (suc left) given =
     after_ask most rows calls (says given) (λ a. activation most says rows calls left (given ++ a ∷ []))
 
--- a call, where calls inside it give these
+-- a call, with these evaluations of the calls inside it
 abbrev pub called_with : Next → Rows → Calls → Calls
 called_with next rows calls k = activation next.limits.value (next.says k.function k.args) rows calls next.limits.asks []
 
@@ -75,11 +76,11 @@ call_below next rows zero k = no_value
 call_below next rows (suc f) k =
     if k.function == f then called_with next rows (call_below next rows f) k else call_below next rows f k
 
--- what a call gives in a state: queries are answered there, and it may call the functions below its own
+-- the evaluation of a call in a state: queries are answered there, and it may call the functions below its own
 abbrev pub evaluation : Next → Call → State → Evaluation
 evaluation next k s = called_with next (λ q. answer q s) (call_below next (λ q. answer q s) k.function) k
 
--- its value, where it has one
+-- its value, if it has one
 abbrev pub eval : Next → Call → State → Option (List ℕ)
 eval next k s = (evaluation next k s).value
 

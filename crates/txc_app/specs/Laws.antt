@@ -1,4 +1,4 @@
--- What is said of calls and of claims alone.
+-- Laws of calls and of claims.
 use Rattle.std.specs.Prelude.{ℕ, suc, ◌≡◌, ◌<◌, ◌≤◌, nat_lt, if◌then◌else◌, true, false, List, [], ◌∷◌, length, Some}
 use Rattle.std.specs.List.{AllByRecursion}
 use mathlib.Core.List.{IsPrefix}
@@ -22,21 +22,21 @@ use Rattle.txc_app.specs.Claims.{covers_all, RowsHold, IsTrueIn}
 
 -- ---- calls
 
--- a call gives what its own activation gives, in which a call of a function below its own gives what
--- it gives by itself, and any other has no value
+-- the evaluation of a call is that of its own activation, in which a call of a function below its own has its
+-- own evaluation, and any other has no value
 abbrev pub CallsAreOfFunctionsBelow : Type 0
 CallsAreOfFunctionsBelow = (next : Next) (k : Call) (s : State)
     → evaluation next k s
     ≡ (let within : Calls = λ g. if nat_lt g.function k.function then evaluation next g s else no_value
     in called_with next (λ q. rows_of q s) within k)
 
--- where the queries that a call meets have equal answers in two states, it gives the same in both
+-- if the queries that a call meets have equal answers in two states, it has the same evaluation in both
 abbrev pub EqualAnswersDecide : Type 0
 EqualAnswersDecide = (next : Next) (k : Call) (s t : State)
     → AllByRecursion (λ q. rows_of q s ≡ rows_of q t) (met next k s)
     → evaluation next k s ≡ evaluation next k t
 
--- an event whose tags do not match tags that cover the queries met leaves what the call gives
+-- an event whose tags do not match tags that cover the queries of a call leaves its evaluation
 abbrev pub EventLeaves : Type 0
 EventLeaves = (next : Next) (k : Call) (L : History) (t : ℕ) (tags : List Tag)
     → covers_all tags (met next k (state_at L t)) ≡ true → sets_match (tags_at L (suc t)) tags ≡ false
@@ -57,7 +57,7 @@ abbrev pub TrueInLonger : Type 0
 TrueInLonger = (next : Next) (L M : History) (e : Entry)
     → IsPrefix L M → IsTrueIn next L e → IsTrueIn next M e
 
--- what the database finds for a query holds over its reach
+-- the database's answer to a query holds over its reach
 abbrev pub FoundRowsHold : Type 0
 FoundRowsHold = (L : History) (q : Query) (t horizon : ℕ) (found : Found)
     → IsAnswer (state_at L) q t horizon (length L) found → found.tags ≡ query_tag q ∷ []
@@ -71,7 +71,7 @@ pub record IsDoneAfter (next : Next) (k : Call) (q : Query) (rows : List RowValu
   pub short : length bytes ≤ next.limits.value
   pub few : 2 ≤ next.limits.asks
 
--- what such a call is done with holds over the reach of the rows
+-- the value of such a call holds over the reach of the rows
 abbrev pub DoneAfterIsTrue : Type 0
 DoneAfterIsTrue = (next : Next) (L : History) (q : Query) (rows : List RowValue) (e : Entry)
     → RowsHold L q rows (Some e.reach) e.tags → IsDoneAfter next e.key q rows e.value → IsTrueIn next L e
@@ -82,8 +82,8 @@ DoneAfterIsTrue = (next : Next) (L : History) (q : Query) (rows : List RowValue)
 abbrev pub begun_at : ℕ → Entry → Entry
 begun_at t e = record e { reach = record { lo = t; known = t; still = true } }
 
--- two histories have the same state, each at a stamp of its own: an entry that is true in the first, holds at its
--- stamp and is still valid is true in the other, as it begins there
+-- two histories have the same state, each at a stamp of its own: an entry that is true in the first, holds at
+-- its stamp and is still valid is true in the other, as it begins there
 abbrev pub CarriedIsTrue : Type 0
 CarriedIsTrue = (next : Next) (L M : History) (e : Entry) (t u : ℕ)
     → state_at L t ≡ state_at M u → u ≤ length M → Holds e.reach t → e.reach.still ≡ true

@@ -1,4 +1,4 @@
-//! What a function asks, and what it is answered.
+//! Requests of a function, and the answers that it gets.
 ghost use Rattle.std.specs.Prelude.{◌≡◌};
 
 use std::marker::Model;
@@ -6,7 +6,7 @@ use txc_node::Value;
 use txc_rows::{Query, Row};
 use txc_tags::Key;
 
-/// Bytes of any number, which a contract sees as a list.
+/// Bytes, which a contract sees as a list.
 #[derive(Debug, Drop)]
 pub struct Bytes {
     items: Vec<u8>,
@@ -33,7 +33,7 @@ impl Bytes {
         &self.items
     }
 
-    /// Gives the bytes back. It takes no memory.
+    /// Returns the bytes as a `Vec`. Does not allocate.
     pub fn into_vec(self) -> Vec<u8>
         ensures { result.items ≡ self }
     {
@@ -42,7 +42,7 @@ impl Bytes {
     }
 }
 
-/// The rows of a query, which a contract sees as a list.
+/// Rows of a query, which a contract sees as a list.
 #[derive(Debug, Drop)]
 pub struct Rows {
     items: Vec<Row>,
@@ -70,7 +70,7 @@ impl Rows {
         &self.items
     }
 
-    /// Gives the rows back. It takes no memory.
+    /// Returns the rows as a `Vec`. Does not allocate.
     pub fn into_vec(self) -> Vec<Row>
         ensures { result.items ≡ self }
     {
@@ -79,22 +79,22 @@ impl Rows {
     }
 }
 
-/// What an activation of a function asks next, or gives.
+/// The next step of an activation of a function: a request, or its value.
 #[derive(Debug, Drop)]
 pub enum Ask {
-    /// The rows of a query.
+    /// Requests the rows of a query.
     Query(Query),
-    /// The value of another call.
+    /// Requests the value of another call.
     Call(Key),
-    /// Nothing more: this is its value.
+    /// Ends the activation with this value.
     Done(Bytes),
 }
 
-/// What an activation is answered.
+/// Answer to a request of an activation.
 #[derive(Debug, Drop)]
 pub enum Answer {
-    /// The rows of the query that it asked.
+    /// The rows of the requested query.
     Rows(Rows),
-    /// The value of the call that it asked.
+    /// The value of the requested call.
     Value(Value),
 }

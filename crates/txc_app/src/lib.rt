@@ -1,4 +1,4 @@
-//! What calls of functions mean: what a function asks and is answered, and what a call gives without a cache.
+//! Meaning of calls: the requests and answers of a function, and the value of a call without a cache.
 #![tactic(auto)]
 
 mod app;

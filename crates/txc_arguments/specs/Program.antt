@@ -43,20 +43,19 @@ settings_rule = record (new_rule (codes "settings")) { long = Some (codes "setti
 abbrev pub command_line : Option ValueParser → App
 command_line modes = with_rule (with_rule (new_app (codes "txcache")) (mode_rule modes)) settings_rule
 
--- the words give the mode of this script
+-- the mode of the words is this script
 abbrev pub HasMode : List Text → Script → Type 0
 HasMode words script =
     (modes : Option ValueParser) × ReadsModes modes
     × (first_of (codes "mode") (matches_of (command_line modes) words) ≡ Some (mode_text script))
 
--- the words give this text of settings, or none
+-- the settings of the words are this text, or none
 abbrev pub HasSettings : List Text → Option Text → Type 0
 HasSettings words settings =
     (modes : Option ValueParser) × ReadsModes modes
     × (first_of (codes "settings") (matches_of (command_line modes) words) ≡ settings)
 
--- a growth was refused, or the words are none of a command line, and the error is of a kind that they call
--- for
+-- there is no memory, or the words are no valid command line, and the error is of the kind that they have
 abbrev pub IsRefusedAs : List Text → Error → Type 0
 IsRefusedAs words error =
     (kind_of error ≡ OutOfMemory)

@@ -6,12 +6,12 @@ use Rattle.txc_arguments.specs.declared.words.NotText.{NotText}
 use Rattle.txc_arguments.specs.declared.words.WordsError.{WordsError}
 use Rattle.txc_arguments.specs.declared.words.WordsError.TheVariants as reasons
 
--- the bytes are no text; of those that begin them the longest text is as long as is said
+-- the bytes are not UTF-8, and the longest prefix of them that is has this length
 pub record HasNoText (fault : NotText) : Type 0 where
   pub bad : IsUtf8 fault.bytes.items → ⊥
   pub at : fault.at ≡ utf8_valid_len fault.bytes.items
 
--- an argument after the program's name is no text; or a growth was refused
+-- an argument after the program's name is not UTF-8; or there is no memory
 abbrev pub IsNoText : WordsError → Type 0
 IsNoText (reasons.NotText fault) = HasNoText fault × (0 < fault.number)
 IsNoText reasons.Memory = ⊤

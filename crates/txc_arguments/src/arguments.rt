@@ -10,17 +10,17 @@ use clap::{Arg, ArgAction, Command, Error};
 use std::alloc::Global;
 use txc_settings::{Mode, Script};
 
-/// What a command line names.
+/// The meaning of a command line.
 #[derive(Clone, Copy, Debug, PartialEq, Eq)]
 pub struct Arguments<'a> {
     pub script: Script,
-    /// The text of the settings, where there is one.
+    /// The text of the settings, if there is one.
     pub settings: Option<&'a str>,
 }
 
 static MODES: [&str; 4] = ["node", "report", "world", "batch"];
 
-/// The argument of the mode.
+/// Makes the argument of the mode.
 fn mode_argument<'a>(alloc: Global) -> Arg<'a>
     ensures { IsModeArg result }
 {
@@ -35,7 +35,7 @@ fn mode_argument<'a>(alloc: Global) -> Arg<'a>
         .value_parser(MODES.as_slice())
 }
 
-/// The argument of the settings.
+/// Makes the argument of the settings.
 fn settings_argument<'a>(alloc: Global) -> Arg<'a>
     ensures { IsSettingsArg result }
 {
@@ -45,7 +45,7 @@ fn settings_argument<'a>(alloc: Global) -> Arg<'a>
         .help("The settings, a TOML document such as 'capacity = 4'")
 }
 
-/// The command line of the program.
+/// Makes the parser of the program's command line.
 fn program<'a>(alloc: Global) -> Result<Command<'a>, Error>
     ensures shape { IfOk result (λ c. (parser : Option ValueParser) × ReadsModes parser
         × (app_of c ≡ command_line parser)) }
@@ -61,7 +61,7 @@ fn program<'a>(alloc: Global) -> Result<Command<'a>, Error>
     )
 }
 
-/// The mode of this name.
+/// Returns the mode of this name.
 fn mode_named(name: &str) -> Option<Script>
     ensures answer { IfSome result (λ script. name.now ≡ mode_text script) }
     ensures refused { IfNone result ((script : Script) → name.now ≡ mode_text script → ⊥) }
@@ -76,8 +76,8 @@ fn mode_named(name: &str) -> Option<Script>
 }
 
 /// Reads the words of a command line, the first of which is the program's name: `node`, `report`, `world` or
-/// `batch`, and at most once `--settings` with a text. A request for help is an error too, of its own kind and with
-/// status 0.
+/// `batch`, and at most once `--settings` with a text. A request for help is an error too, of its own kind and
+/// with status 0.
 pub fn read_arguments<'a>(alloc: Global, words: &'a [String]) -> Result<Arguments<'a>, Error>
     ensures mode { IfOk result (λ a. HasMode (map string_bytes words.entry.now) a.script) }
     ensures settings { IfOk result (λ a. HasSettings (map string_bytes words.entry.now)

@@ -7,10 +7,10 @@ use std::env::{Env, FillError};
 use std::fmt;
 use thiserror::Error;
 
-/// How much of an argument is shown.
+/// The number of bytes of an argument that are shown.
 const MAX_SHOWN: usize = 40;
 
-/// How much room an argument is read into at first.
+/// The size of the first buffer for an argument.
 const FIRST_ROOM: usize = 256;
 
 /// An argument that is no text. It is printed on one line, its bytes that are not printable ASCII escaped.
@@ -18,17 +18,17 @@ const FIRST_ROOM: usize = 256;
 pub struct NotText {
     /// Its number among the arguments after the program's name, counted from 1.
     pub number: usize,
-    /// How many of its bytes are right, so that the next one is wrong.
+    /// The number of valid bytes before the first wrong one.
     pub at: usize,
     pub bytes: Vec<u8>,
 }
 
-/// Why the arguments of a process give no words.
+/// Errors of reading the arguments of a process as words.
 #[derive(Debug, Drop, Error)]
 pub enum WordsError {
     #[error("{0}")]
     NotText(NotText),
-    /// A growth was refused.
+    /// Memory cannot be allocated.
     #[error("memory")]
     Memory,
 }
@@ -69,7 +69,7 @@ impl fmt::Display for NotText {
     }
 }
 
-/// The bytes of the argument of that number, if there are so many.
+/// Returns the bytes of the argument of that number, or `None` if there are fewer arguments.
 fn argument<R: Env>(rt: &R, alloc: Global, number: usize) -> Result<Option<Vec<u8>>, AllocError> {
     let mut room = FIRST_ROOM;
     for _ in 0..usize::BITS {
@@ -86,7 +86,7 @@ fn argument<R: Env>(rt: &R, alloc: Global, number: usize) -> Result<Option<Vec<u
     Err(AllocError)
 }
 
-/// The word that the bytes of the argument of that number are.
+/// Returns the word of the argument's bytes. Fails if they are not UTF-8.
 fn word(number: usize, bytes: Vec<u8>) -> Result<String, NotText>
     ensures answer { IfOk result (λ word. string_bytes word ≡ bytes.items) }
     ensures refused { IfErr result (IsNotTextAt number bytes.items) }
@@ -101,8 +101,8 @@ fn word(number: usize, bytes: Vec<u8>) -> Result<String, NotText>
     }
 }
 
-/// The words of the process's command line. The first is `txcache`, by whatever name the program was called; where an
-/// argument is no text, the first such argument is named.
+/// Returns the words of the process's command line. The first is `txcache`, whatever the name under which the
+/// program was called. Fails with the first argument that is not a text, or if memory cannot be allocated.
 pub fn read_words<R: Env>(rt: &R, alloc: Global) -> Result<Vec<String>, WordsError>
     ensures named { IfOk result (λ words. BeginWithName (map string_bytes words.items)) }
     ensures refused { IfErr result IsNoText }

@@ -1,4 +1,4 @@
--- What is wrong with the words of a malformed line of a batch's script.
+-- The fault of the words of a malformed line of a batch's script.
 use Rattle.std.specs.Prelude.{◌≡◌, ◌≢◌, ◌⊎◌, ◌<◌, ◌≤◌, ℕ, List, [], ◌∷◌, codes, length}
 use Rattle.txc_script.specs.Excerpts.{excerpt_of}
 use Rattle.txc_script.specs.LineFaults.{IsKindsFault}
@@ -11,25 +11,24 @@ use Rattle.txc_work.specs.declared.job.Job.{Job}
 use Rattle.txc_batch.specs.Orders.{IsPreparing, job_kinds}
 use Rattle.txc_batch.specs.declared.reading.TheConstants.{LEAST_WORDS}
 
--- what is wrong with the words after `job`: there are too few; else one is not of its kind
+-- the fault of the words after `job`: there are too few; else one is not of its kind
 abbrev pub IsJobFault : List (List ℕ) → WordsFault → Type 0
 IsJobFault words fault =
     ((length words < LEAST_WORDS) × (fault ≡ Own (Few LEAST_WORDS (length words))))
     ⊎ ((LEAST_WORDS ≤ length words) × IsKindsFault (job_kinds words) words fault)
 
--- it says where changes and pins stand
+-- the error text states the place of changes and pins
 abbrev pub IsMisplaced : WordsFault → Type 0
 IsMisplaced (Own (Misplaced text)) = text.now ≡ codes "changes and pins stand before the first job"
 IsMisplaced fault = ⊥
 
--- what is wrong with a change or a pin: before the first job, what is wrong with its words; after one, that it
--- stands there
+-- the fault of a change or a pin: before the first job, that of its words; after one, its place
 abbrev pub IsPreparingFault : List Job → LineName → List (List ℕ) → WordsFault → Type 0
 IsPreparingFault [] name words fault = IsFaultAfter name words fault
 IsPreparingFault (job ∷ jobs) name words fault = IsMisplaced fault
 
--- What is wrong with a line's words after lines that asked for these jobs: the first is no line's name; else it
--- is in the words after that name, or in the place of the line.
+-- The fault of a line's words after lines that requested these jobs: the first is no line's name; else it is in
+-- the words after that name, or in the place of the line.
 abbrev pub IsBatchFault : List Job → List (List ℕ) → WordsFault → Type 0
 IsBatchFault jobs all fault =
     ((word : List ℕ) × (words : List (List ℕ)) × (all ≡ word ∷ words) × (word ≢ codes "job")

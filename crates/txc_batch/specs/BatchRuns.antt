@@ -1,4 +1,4 @@
--- What a run does with a batch's script.
+-- The effect of a run of a batch's script.
 use Rattle.std.specs.Prelude.{◌≡◌, ◌⊎◌, ◌||◌, ℕ, Bool, true, false, List, Option, Result, Ok, Err}
 use Rattle.std.specs.Io.KnownBytes.{Appends, Keeps}
 use Rattle.txc_settings.specs.declared.settings.Settings.{Settings}
@@ -17,14 +17,14 @@ use Rattle.txc_batch.specs.RunJobs.{EndsSo}
 use Rattle.txc_batch.specs.Sources.{IsNewSource, SourceValue}
 use Rattle.txc_batch.specs.Staffing.{RanValue}
 
--- the status of a run without a malformed line, in which a refusal was written or none was
+-- the status of a run without a malformed line, by whether a refusal was written
 abbrev pub status_of : Bool → WordsStatus
 status_of true = Refused
 status_of false = Done
 
--- The jobs that the lines asked for, and no others, ran over the database that the lines left, and what they gave
--- was written. The status tells whether a refusal was written, of a line or of a job, or of the batch. After a
--- fault of the writer a prefix of that text was written, and nothing out of memory.
+-- Exactly the jobs that the lines requested ran, over the database that the lines left, and their results were
+-- written. The status shows whether a refusal was written, of a line, of a job or of the batch. After a fault
+-- of the writer a prefix of that text was written; without memory, nothing.
 abbrev pub EndsInJobs : Next → BatchState → Bool → Option (List ℕ) → Option (List ℕ) → Result WordsStatus RunFault
     → Type 0
 EndsInJobs next s is_refused contents_old contents_new (Ok status) =
@@ -37,8 +37,8 @@ EndsInJobs next s is_refused contents_old contents_new (Err Write) =
     × AppendsPrefix contents_old contents_new (batch_text batch)
 EndsInJobs next s is_refused contents_old contents_new (Err Memory) = Keeps contents_old contents_new
 
--- how a run ends whose lines ended so, and left this state: in the jobs, where all lines were answered and none
--- was malformed; else in the same way, and nothing more is written
+-- the end of a run whose lines ended so, and left this state: with the jobs, if all lines were answered and
+-- none was malformed; else in the same way, and nothing more is written
 abbrev pub EndsAfterLines : Next → BatchState → Result WordsStatus RunFault → Option (List ℕ) → Option (List ℕ)
     → Result WordsStatus RunFault → Type 0
 EndsAfterLines next s (Ok Done) contents_old contents_new result =
@@ -50,13 +50,14 @@ EndsAfterLines next s (Ok (Malformed line)) contents_old contents_new result =
 EndsAfterLines next s (Err fault) contents_old contents_new result =
     Keeps contents_old contents_new × (result ≡ Err fault)
 
--- memory for what a run begins with was refused, and nothing was read or written
+-- there was no memory to begin the run, and nothing was read or written
 abbrev pub HasNotBegun : Option (List ℕ) → Option (List ℕ) → Option (List ℕ) → Option (List ℕ)
     → Result WordsStatus RunFault → Type 0
 HasNotBegun remaining_old remaining_new contents_old contents_new result =
     (remaining_new ≡ remaining_old) × Keeps contents_old contents_new × (result ≡ Err Memory)
 
--- a run that begins with this batch: its lines were run as those of any script, and then came what comes after them
+-- a run that begins with this batch: its lines were run as those of any script, and then came what comes after
+-- them
 abbrev pub HasRunFrom : Next → BatchState → Option (List ℕ) → Option (List ℕ) → Option (List ℕ) → Option (List ℕ)
     → Result WordsStatus RunFault → Type 0
 HasRunFrom next s remaining_old remaining_new contents_old contents_new result =

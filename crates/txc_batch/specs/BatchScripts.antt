@@ -1,4 +1,4 @@
--- Scripts of a batch: what their lines ask for and what they give.
+-- Scripts of a batch: the requests of their lines, and the results.
 use Rattle.std.specs.Prelude.{◌≡◌, ◌⊎◌, ℕ, Bool, false, List, [], ◌∷◌, ◌++◌, Option, Some, None, Result, length}
 use Rattle.txc_script.specs.Kinds.{ScriptKind, no_closing}
 use Rattle.txc_words.specs.declared.fault.OwnFault.{OwnFault}
@@ -13,17 +13,17 @@ use Rattle.txc_batch.specs.declared.order.Order.{Order}
 use Rattle.txc_batch.specs.declared.order.Order.TheVariants.{Write, Pin, Run}
 use Rattle.txc_batch.specs.declared.prepared.PrepareError.{PrepareError}
 
--- what jobs run over was led from the one to the other, and all else stayed
+-- the source of the jobs took this transition, and all else is unchanged
 abbrev pub SourceTransition : (SourceValue → SourceValue → Type 0) → BatchState → BatchState → Type 0
 SourceTransition leads s end = (source : SourceValue) × leads s.source source × (end ≡ record s { source = source })
 
--- the job stands behind the others, and has the number of its place among them
+-- the job is added as the last, and its number is its place among them
 pub record Queues (q : QueuedValue) (s end : BatchState) : Type 0 where
   pub job : Job
   pub is : IsJobOf (length s.jobs) q job
   pub after : end ≡ record s { jobs = s.jobs ++ job ∷ [] }
 
--- a change or a pin was made, or refused, and has its reply; a job was put behind the others, and has no reply yet
+-- a change or a pin was made, or failed, and has its reply; a job was queued, and has no reply yet
 abbrev pub DoesOrder : BatchState → Order → Option (Result ℕ PrepareError) → BatchState → Type 0
 DoesOrder s (Write change) None end = ⊥
 DoesOrder s (Write change) (Some told) end = SourceTransition (λ old new. MakesChange change old told new) s end
@@ -31,13 +31,13 @@ DoesOrder s (Pin now) None end = ⊥
 DoesOrder s (Pin now) (Some told) end = SourceTransition (λ old new. MakesPin now old told new) s end
 DoesOrder s (Run q) reply end = (reply ≡ None) × Queues q s end
 
--- nothing was done of what a line asks for, or it is a change or a pin, and was made or refused
+-- no part of a line's request was done, or it is a change or a pin, and was made or failed
 abbrev pub BreaksOffOrder : BatchState → List ℕ → BatchState → Type 0
 BreaksOffOrder s line end =
     (end ≡ s)
     ⊎ ((order : Order) × (told : Result ℕ PrepareError) × AsksFor s.jobs line order × DoesOrder s order (Some told) end)
 
--- what is written of a line: of a job nothing
+-- the text of a line: none for a job
 abbrev pub order_text : Option (Result ℕ PrepareError) → List ℕ
 order_text None = []
 order_text (Some told) = prepared_text told ++ 10 ∷ []

@@ -1,4 +1,4 @@
--- What the lines of a batch's script find and leave.
+-- The state of a batch between two lines of its script.
 use Rattle.std.specs.Prelude.{ℕ, List, []}
 use Rattle.txc_settings.specs.declared.settings.Settings.{Settings}
 use Rattle.txc_work.specs.declared.job.Job.{Job}

@@ -7,7 +7,7 @@ abbrev pub numbers_in : List Objects → List ℕ
 numbers_in [] = []
 numbers_in (objects ∷ crew) = numbers_of objects
 
--- so many workers, all idle, of which each has the functions of the first
+-- this many workers, all idle, each with the functions of the first
 pub record IsCrew (workers : ℕ) (crew : List Objects) : Type 0 where
   pub count : length crew ≡ workers
   pub idle : All AllIdle crew

@@ -1,4 +1,4 @@
--- What the lines of a batch's script ask for.
+-- The requests of the lines of a batch's script.
 use Rattle.std.specs.Prelude.{◌≡◌, ◌⊎◌, ℕ, ◌≤◌, List, [], ◌∷◌, Option, Some, None, option_map, codes, length}
 use Rattle.std.specs.List.{filter_map}
 use Rattle.txc_tags.specs.Keys.{Call}
@@ -21,7 +21,7 @@ use Rattle.txc_batch.specs.declared.order.Order.{Order}
 use Rattle.txc_batch.specs.declared.order.Order.TheVariants.{Write, Pin, Run}
 use Rattle.txc_batch.specs.declared.reading.TheConstants.{LEAST_WORDS}
 
--- the names of lines that prepare what jobs run over: of changes, and of pins
+-- the names of lines that prepare the source of the jobs: changes and pins
 abbrev pub IsPreparing : LineName → Type 0
 IsPreparing names.Put = Unit {0}
 IsPreparing names.Remove = Unit {0}
@@ -32,18 +32,18 @@ IsPreparing name = ⊥
 abbrev pub job_kinds : List (List ℕ) → List WordKind
 job_kinds words = kinds_for (moment ∷ moment ∷ []) word_kinds.Key words
 
--- the key that a word says
+-- the key that is this value
 abbrev pub key_said : Said → Option Call
 key_said (Key key) = Some key
 key_said value = None
 
--- the job that words say
+-- the job of these values
 abbrev pub job_said : List Said → Option QueuedValue
 job_said (Number now ∷ Number staleness ∷ keys) =
     Some (record { now = now; staleness = staleness; keys = filter_map key_said keys })
 job_said values = None
 
--- the words are a moment, a staleness, and keys, one at least, which say this job
+-- the words are a moment, a staleness, and at least one key, and are those of this job
 pub record AreJobWords (words : List (List ℕ)) (q : QueuedValue) : Type 0 where
   pub values : List Said
   pub some : LEAST_WORDS ≤ length words
@@ -56,7 +56,7 @@ pub record SpellsJob (line : List ℕ) (q : QueuedValue) : Type 0 where
   pub line_is : words_of line ≡ codes "job" ∷ words
   pub says : AreJobWords words q
 
--- what the words after such a name ask for, by what they say
+-- the request of a line of such a name, by the values of the words after it
 abbrev pub order_said : LineName → List Said → Option Order
 order_said names.Put values = option_map Write (change_said changes.Put values)
 order_said names.Remove values = option_map Write (change_said changes.Remove values)
@@ -74,7 +74,8 @@ abbrev pub SpellsPreparing : List ℕ → Order → Type 0
 SpellsPreparing line order =
     (name : LineName) × (words : List (List ℕ)) × (words_of line ≡ name_text name ∷ words) × Prepares name words order
 
--- what a line asks for after lines that asked for these jobs: a job; or a change or a pin, before the first job
+-- the request of a line after lines that requested these jobs: a job; or a change or a pin, before the first
+-- job
 abbrev pub AsksFor : List Job → List ℕ → Order → Type 0
 AsksFor jobs line order =
     ((q : QueuedValue) × (order ≡ Run q) × SpellsJob line q) ⊎ ((jobs ≡ []) × SpellsPreparing line order)

@@ -1,4 +1,4 @@
--- What is written of changes and pins.
+-- The texts of changes and pins.
 use Rattle.std.specs.Prelude.{ℕ, Bool, true, false, List, ◌++◌, Result, Ok, Err, codes}
 use Rattle.std.specs.Fmt.{decimal}
 use Rattle.txc_db.specs.Codes.{database_code}
@@ -6,7 +6,7 @@ use Rattle.txc_cushion.specs.Codes.{add_code}
 use Rattle.txc_batch.specs.declared.prepared.PrepareError.{PrepareError}
 use Rattle.txc_batch.specs.declared.prepared.PrepareError.TheVariants.{Database, Pincushion}
 
--- why it was not made
+-- the text of the cause for which it was not made
 abbrev pub prepare_error_text : PrepareError → List ℕ
 prepare_error_text (Database error) = database_code error
 prepare_error_text (Pincushion error) = add_code error

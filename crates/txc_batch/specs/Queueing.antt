@@ -1,4 +1,4 @@
--- Jobs that are to be run, as their lines say them.
+-- The jobs that lines have queued.
 use Rattle.std.specs.Prelude.{◌≡◌, ℕ, List}
 use Rattle.txc_tags.specs.Keys.{Call}
 use Rattle.txc_work.specs.declared.job.Job.{Job}

@@ -1,4 +1,4 @@
--- What jobs run over, and what changes and pins make of it.
+-- The source of jobs, a database and its pincushion, and the effect of changes and pins on it.
 use Rattle.std.specs.Prelude.{◌≡◌, ℕ, false, [], ◌∷◌, length, Result, Ok, Err}
 use Rattle.txc_db.specs.Room.{HasCapacity}
 use Rattle.txc_rows.specs.declared.store_error.TheConstants.{MAX_MATCHING}
@@ -18,7 +18,7 @@ pub record SourceValue : Type 0 where
   pub database : DatabaseValue
   pub cushion : CushionValue
 
--- a new database, with room for so many events, and no pin
+-- a new database, with room for `row_cap` events, and no pin
 pub record IsNewSource (row_cap : ℕ) (s : SourceValue) : Type 0 where
   pub history : s.database.history ≡ []
   pub room : HasCapacity s.database.events row_cap
@@ -29,7 +29,7 @@ pub record IsNewSource (row_cap : ℕ) (s : SourceValue) : Type 0 where
   pub whole : s.database.broken ≡ false
   pub cushion : s.cushion ≡ empty_cushion (front_of s.database)
 
--- the database refused, and nothing else was called
+-- the database failed, and nothing else was called
 pub record HasRefusedSource (old : SourceValue) (error : DbError) (new : SourceValue) : Type 0 where
   pub is : new ≡ record old { database = new.database }
   pub left : IsLeft old.database new.database error
@@ -40,7 +40,7 @@ pub record HasMadeChange (change : Change) (old : SourceValue) (stamp : ℕ) (ne
   pub stamp_is : stamp ≡ newest new.database
   pub only_if : IsCommittable old.database (newest old.database) [] (change ∷ [])
 
--- a change was committed, or the database refused it
+-- a change was committed, or the database failed to commit it
 abbrev pub MakesChange : Change → SourceValue → Result ℕ PrepareError → SourceValue → Type 0
 MakesChange change old (Ok stamp) new = HasMadeChange change old stamp new
 MakesChange change old (Err (Database error)) new = HasRefusedSource old error new
@@ -54,7 +54,7 @@ pub record IsPinOfPresent (now : ℕ) (d : DatabaseValue) (pinned : Pinned) : Ty
   pub front : pinned.front ≡ front_of (after_pin d now)
   pub only_if : IsPinnable d 0
 
--- the pin was added, and its user given back, so that no transaction uses it
+-- the pin was added and its user returned, so that no transaction uses it
 pub record HasPinnedPresent (now : ℕ) (old : SourceValue) (stamp : ℕ) (new : SourceValue) : Type 0 where
   pub pinned : Pinned
   pub made : IsPinOfPresent now old.database pinned
@@ -63,7 +63,7 @@ pub record HasPinnedPresent (now : ℕ) (old : SourceValue) (stamp : ℕ) (new :
   pub database : new.database ≡ after_pin old.database now
   pub cushion : new.cushion ≡ after_give_back (after_add old.cushion pinned) (stamp ∷ [])
 
--- the pincushion did not take the pin, and the pin's hold was taken away
+-- the addition of the pin failed, and the pin's hold was released
 pub record HasUnpinnedPresent (now : ℕ) (old : SourceValue) (error : AddError) (new : SourceValue)
     : Type 0 where
   pub pinned : Pinned
@@ -72,7 +72,7 @@ pub record HasUnpinnedPresent (now : ℕ) (old : SourceValue) (error : AddError)
   pub database : new.database ≡ after_unpin (after_pin old.database now) pinned.stamp
   pub cushion : new.cushion ≡ old.cushion
 
--- the present was pinned and the pin added; or the database refused, or the pincushion
+-- the present was pinned and the pin added; or the database failed, or the pincushion
 abbrev pub MakesPin : ℕ → SourceValue → Result ℕ PrepareError → SourceValue → Type 0
 MakesPin now old (Ok stamp) new = HasPinnedPresent now old stamp new
 MakesPin now old (Err (Database error)) new = HasRefusedSource old error new × IsPinRefused old.database 0 error
@@ -80,7 +80,7 @@ MakesPin now old (Err (Pincushion error)) new = HasUnpinnedPresent now old error
 
 -- ---- only private functions need this
 
--- the pin was added and its user given back; or the pincushion refused it, and nothing has changed
+-- the pin was added and its user returned; or the addition failed, and nothing has changed
 abbrev pub HasAddedPin : {T : Type 0} → Pinned → SourceValue → Result T AddError → SourceValue → Type 0
 HasAddedPin pinned old (Ok added) new =
     (new ≡ record old { cushion = after_give_back (after_add old.cushion pinned) (pinned.stamp ∷ []) })

@@ -6,22 +6,22 @@ use Rattle.txc_shared.specs.declared.settings.NodeSettings.{NodeSettings}
 use Rattle.txc_client.specs.Txn.{ClientValue}
 use Rattle.txc_work.specs.declared.job.Receipted.{Receipted}
 
--- how the node of a number is made
+-- the settings of the node of a number
 abbrev pub node_by : Settings → ℕ → NodeSettings
 node_by s number = record { number = number; capacity = s.capacity; recent = s.recent }
 
--- as many nodes as there are to be, each made by its number
+-- the nodes of the settings, each made by its number
 pub record AreNodesBy (s : Settings) (nodes : List NodeSettings) : Type 0 where
   pub count : length nodes ≡ s.nodes
   pub each : (number : ℕ) (node : NodeSettings) → slice_get nodes number ≡ Some node → node ≡ node_by s number
 
--- the history of each node is stored, in a row with room for so many records
+-- the history of each node is stored, in a row with room for this many records
 abbrev pub HaveRoomsBy : Settings → (ℕ → Name) → Type 0
 HaveRoomsBy s node_histories = (number : ℕ) → number < s.nodes
     → (row : List ℕ) × (node_histories number ≡ stored row) × (length row ≡ s.row_cap)
 
--- as many clients as there are to be workers; each has a pass through each of the nodes, whose histories are these,
--- and renews a pin after that time
+-- one client for each worker of the settings; each has a pass through each of the nodes, whose histories are
+-- these, and renews a pin after that time
 pub record AreClientsBy (s : Settings) (node_histories : ℕ → Name) (clients : List ClientValue) : Type 0 where
   pub count : length clients ≡ s.workers
   pub nodes : All (λ client. AreNodesBy s (map (λ pass. pass.settings) client.passes)) clients

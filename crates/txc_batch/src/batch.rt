@@ -1,5 +1,4 @@
-//! What the lines of a batch's script find and leave: a database and its pincushion, and the jobs that are to be run
-//! over them.
+//! The state of a batch's script: a database and its pincushion, and the queued jobs.
 ghost use Rattle.std.specs.Prelude.{◌≡◌, Some, IfOk, OnOk, OnErr};
 ghost use Rattle.txc_batch.specs.BatchScripts.{DoesOrder, Queues};
 ghost use Rattle.txc_batch.specs.BatchStates.{new_batch};
@@ -19,10 +18,10 @@ use txc_settings::Settings;
 use txc_stamp::Stamp;
 use txc_work::Job;
 
-/// What jobs are to run over and by, and the jobs.
+/// The database and the workers of a batch, and its jobs.
 #[derive(Drop)]
 pub struct Batch<A: App, C: Cacheable> {
-    /// Those of the nodes and of the clients.
+    /// The settings of the nodes and of the clients.
     pub(crate) settings: Settings,
     pub(crate) source: Source,
     /// The functions of each worker.
@@ -49,7 +48,7 @@ impl<A: App, C: Cacheable> Model for Batch<A, C> {
 }
 
 impl<A: App, C: Cacheable> Batch<A, C> {
-    /// No job yet.
+    /// Makes a batch without jobs.
     pub fn new(
         alloc: Global,
         settings: Settings,
@@ -67,7 +66,7 @@ impl<A: App, C: Cacheable> Batch<A, C> {
         }
     }
 
-    /// The jobs, in the order of their lines.
+    /// Returns the jobs, in the order of their lines.
     pub fn jobs(&self) -> &[Job]
         ensures { result.now ≡ self.now.jobs }
     {
@@ -88,7 +87,7 @@ impl<A: App, C: Cacheable> Batch<A, C> {
         self.source.pin(alloc, now)
     }
 
-    /// Puts a job behind the others.
+    /// Appends a job.
     fn queue(&mut self, queued: Queued) -> Result<(), AllocError>
         ensures after { OnOk result (Queues queued self.old self.new) }
         ensures unchanged { OnErr result (self.new ≡ self.old) }
@@ -114,8 +113,8 @@ impl<A: App, C: Cacheable> Batch<A, C> {
         Ok(())
     }
 
-    /// Does what a line asks for, and puts what is written of it after the text. Returns whether that holds a
-    /// refusal.
+    /// Executes an order, appends its output to the text, and returns whether that has a refusal. Fails only if
+    /// memory cannot be allocated.
     pub fn obey(
         &mut self,
         alloc: Global,

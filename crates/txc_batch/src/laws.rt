@@ -1,7 +1,7 @@
-//! What the lines of a batch's script are. It is a lemma: it has no code.
+//! A law of the lines of a batch's script. It is a lemma without code.
 ghost use Rattle.txc_batch.specs.BatchLaws.{NothingIsWrongWithOrders};
 
-/// What is said to be wrong with the words of a line is said of no line that asks for something.
+/// A line that is an order has no fault.
 pub fn nothing_is_wrong_with_an_order()
     ensures { NothingIsWrongWithOrders }
 {}

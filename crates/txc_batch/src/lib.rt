@@ -1,4 +1,4 @@
-//! Runs of a batch's scripts: changes and pins, and then jobs, which run side by side after all lines.
+//! Runs of a batch's scripts: changes and pins, and then jobs, which run in parallel after all lines.
 #![tactic(auto)]
 
 mod batch;

@@ -1,9 +1,9 @@
-//! What the lines of a batch's script ask for.
+//! Orders: the meanings of the lines of a batch's script.
 use std::marker::Model;
 use txc_rows::Change;
 use txc_tags::Key;
 
-/// A job that is to be run, without its number.
+/// A queued job, without its number.
 #[derive(Drop)]
 pub struct Queued {
     pub(crate) now: u64,
@@ -19,12 +19,12 @@ impl Model for Queued {
     ghost view = { λ q. record { now = q.now; staleness = q.staleness; keys = q.keys.items } };
 }
 
-/// What a line asks for.
+/// The meaning of a line.
 #[derive(Drop)]
 pub enum Order {
     /// A change, which is made at once.
     Write(Change),
-    /// A pin of this moment, which is made at once.
+    /// A pin at this wall-clock time, in milliseconds, which is made at once.
     Pin(u64),
     /// A job, which is run after all lines.
     Run(Queued),

@@ -1,51 +1,11 @@
-//! What is written of the outcomes of jobs.
+//! Texts of the outcomes of jobs.
 ghost use Rattle.std.specs.Prelude.{◌≡◌, ◌≢◌, ◌++◌, Err, IfOk, OnOk, OnErr};
-ghost use Rattle.std.specs.Fmt.{WritesOnOk};
 ghost use Rattle.std.specs.List.{flat_map, list_any};
-ghost use Rattle.txc_batch.specs.OutcomeTexts.{batch_text, is_refused_batch, is_refused_outcome, outcome_text, result_text};
+ghost use Rattle.txc_batch.specs.OutcomeTexts.{batch_text, is_refused_batch, is_refused_outcome, result_text};
 
 use crate::ran::Ran;
 use std::alloc::{AllocError, Global};
-use std::fmt;
 use txc_work::{BatchError, Outcome};
-
-/// Writes the values of a job's calls, or the refusal of one.
-fn write_outcome<W: fmt::Write>(f: &mut fmt::Formatter<W>, outcome: &Outcome) -> fmt::Result
-    ensures { WritesOnOk W.write_str_gives f.old result (outcome_text outcome.now) f.new }
-{
-    match outcome {
-        Outcome::Receipt(receipt) => {
-            for answer in &receipt.answers {
-                let value = &answer.value;
-                write!(f, " {value}")?;
-            }
-            Ok(())
-        }
-        Outcome::Refused(error) => {
-            write!(f, " refused ")?;
-            error.write_code(f)
-        }
-    }
-}
-
-/// The lines of its jobs.
-impl fmt::Display for Ran {
-    ghost use Rattle.std.specs.Prelude.{Some};
-    ghost use Rattle.std.specs.List.{flat_map};
-    ghost use Rattle.txc_batch.specs.OutcomeTexts.{result_text};
-
-    ghost output = { λ ran. Some (flat_map result_text ran.results) };
-
-    fn fmt<W: fmt::Write>(&self, f: &mut fmt::Formatter<W>) -> fmt::Result {
-        for told in self.results() {
-            let number = told.number;
-            write!(f, "job {number}")?;
-            write_outcome(f, &told.outcome)?;
-            writeln!(f)?;
-        }
-        Ok(())
-    }
-}
 
 fn is_refused(outcome: &Outcome) -> bool
     ensures { result ≡ is_refused_outcome outcome.now }
@@ -56,7 +16,7 @@ fn is_refused(outcome: &Outcome) -> bool
     }
 }
 
-/// Puts the lines of jobs after the text. Returns whether one of them holds a refusal.
+/// Appends the lines of jobs. Returns whether one of them has a refusal.
 fn push_results(alloc: Global, text: &mut Vec<u8>, ran: &Ran) -> Result<bool, AllocError>
     ensures text { OnOk result (text.new.items ≡ text.old.items ++ flat_map result_text ran.now.results) }
     ensures refusal { IfOk result (λ refused.
@@ -68,8 +28,8 @@ fn push_results(alloc: Global, text: &mut Vec<u8>, ran: &Ran) -> Result<bool, Al
     Ok(ran.results().iter().any(|told| is_refused(&told.outcome)))
 }
 
-/// Puts after the text what a batch gave. Returns whether that holds a refusal. Of a batch that was refused
-/// memory nothing is written.
+/// Appends the output of a batch. Returns whether it has a refusal. It writes nothing for a batch that failed
+/// for want of memory.
 pub fn push_batch(
     alloc: Global,
     text: &mut Vec<u8>,

@@ -13,7 +13,7 @@ use txc_script::{Script, Unanswered};
 use txc_stamp::Stamp;
 use txc_words::OwnFault;
 
-/// A batch's script, of which the jobs are run when all lines were answered.
+/// A batch's script. Its jobs run after all lines were executed.
 pub struct BatchScript<A, C>(pub PhantomData<(A, C)>);
 
 impl<A: App, C: Cacheable> Script for BatchScript<A, C> {

@@ -1,4 +1,4 @@
-//! What is written of a change or a pin.
+//! Texts of changes and pins.
 ghost use Rattle.std.specs.Prelude.{◌≡◌, ◌∷◌, [], ◌++◌, IfOk, OnOk, OnErr};
 ghost use Rattle.txc_batch.specs.PreparedTexts.{prepared_text, is_refused_preparing};
 
@@ -8,7 +8,7 @@ use txc_cushion::AddError;
 use txc_db::DbError;
 use txc_stamp::Stamp;
 
-/// Why a change was not made, or a pin. It is printed as its code and the number that goes with it.
+/// Errors of a change or a pin. It is printed as its code and, if it has one, its number.
 #[derive(Clone, Copy, Debug, PartialEq, Eq)]
 pub enum PrepareError {
     Database(DbError),
@@ -30,7 +30,7 @@ impl fmt::Display for PrepareError {
     }
 }
 
-/// Puts what is written of a change or a pin after the text. Returns whether that holds a refusal.
+/// Appends the text of a change or a pin. Returns whether it has a refusal.
 pub fn push_prepared(
     alloc: Global,
     text: &mut Vec<u8>,

@@ -4,6 +4,8 @@ ghost use Rattle.std.specs.List.Sorted.{IsStrictlyIncreasing};
 ghost use Rattle.txc_registry.specs.Objects.{numbers_of};
 ghost use Rattle.txc_work.specs.Batches.{job_numbers, result_numbers, IsResultOf, Meets, NamesOneOf};
 
+mod texts;
+
 use std::alloc::Global;
 use std::marker::Model;
 use std::sync::Wait;
@@ -25,8 +27,8 @@ impl Gate for OpenGate {
     fn after(&self, job: &Job) {}
 }
 
-/// The results of jobs, and the settings of the clients that ran them and of their nodes. Nothing but
-/// [`Ran::by_clients`] makes it: no result shows those settings.
+/// The results of jobs, and the settings of the clients that ran them and of their nodes. Only
+/// [`Ran::by_clients`] makes it, since no result shows these settings.
 #[derive(Drop)]
 pub struct Ran {
     settings: Settings,
@@ -44,7 +46,8 @@ impl Model for Ran {
 impl Ran {
     ghost use Rattle.txc_batch.specs.Staffing.{AreClientsBy};
 
-    /// Runs the jobs, each once, by one of the clients, which are those of the settings.
+    /// Runs the jobs, each once, by one of the clients, which are made by the settings. Fails if a job has no
+    /// result or two, or memory cannot be allocated.
     pub fn by_clients<A, C, J, H>(
         rt: &H,
         alloc: Global,
@@ -71,7 +74,7 @@ impl Ran {
         Ok(Ran { settings, results })
     }
 
-    /// The results, in the order of the jobs' numbers.
+    /// Returns the results, in the order of the jobs' numbers.
     pub fn results(&self) -> &[Receipted]
         ensures { result.now ≡ self.now.results }
     {

@@ -1,4 +1,4 @@
-//! Reading what a line of a batch's script asks for.
+//! Reading the orders of a batch's script.
 ghost use Rattle.std.specs.Prelude.{◌≡◌, IfOk, IfErr, IfSome, IfNone, length};
 ghost use Rattle.std.specs.List.{filter_map};
 ghost use Rattle.txc_script.specs.LineFaults.{IsWrong};
@@ -19,16 +19,16 @@ use txc_tags::Key;
 use txc_words::{LAST_MOMENT, LineName, OwnFault, change_of, read_after_name};
 use txc_work::Job;
 
-/// How many words after its name a job has at least.
+/// The least number of words after a job's name.
 pub const LEAST_WORDS: usize = 3;
 
-/// The moment of a job and how stale its snapshot may be. Its other words are keys.
+/// The wall-clock time of a job and its staleness limit. Its other words are keys.
 static MOMENTS: [WordKind; 2] = [WordKind::Number(LAST_MOMENT), WordKind::Number(LAST_MOMENT)];
 
-/// Where changes and pins stand.
+/// The places of changes and pins.
 const EARLY: &str = "changes and pins stand before the first job";
 
-/// The keys that words say.
+/// Returns the keys that words mean.
 fn keys_of(alloc: Global, said: &[Said<'_>]) -> Result<Vec<Key>, AllocError>
     ensures { IfOk result (λ keys. keys.items ≡ filter_map key_said said.now) }
 {
@@ -40,7 +40,7 @@ fn keys_of(alloc: Global, said: &[Said<'_>]) -> Result<Vec<Key>, AllocError>
         .collect(alloc)
 }
 
-/// The job that words say.
+/// Returns the job that words mean.
 fn job_of(alloc: Global, said: &[Said<'_>]) -> Result<Option<Queued>, AllocError>
     ensures { IfOk result (λ job. job ≡ job_said said.now) }
 {
@@ -57,7 +57,7 @@ fn job_of(alloc: Global, said: &[Said<'_>]) -> Result<Option<Queued>, AllocError
     }
 }
 
-/// A job, by the words after its name, of which there are so many; or what is wrong with them.
+/// Reads a job from the `count` words after its name, or returns their fault.
 fn read_queued(
     alloc: Global,
     words: WordsLeft<'_>,
@@ -80,7 +80,7 @@ fn read_queued(
     }
 }
 
-/// The name of a change or of a pin that the word is.
+/// Returns the name of a change or of a pin that the word is, if it is one.
 fn preparing_name(word: &[u8]) -> Option<LineName>
     ensures answer { IfSome result (λ name. word.now ≡ name_text name) }
     ensures preparing { IfSome result IsPreparing }
@@ -94,7 +94,7 @@ fn preparing_name(word: &[u8]) -> Option<LineName>
     }
 }
 
-/// What the words after the name of a change or of a pin ask for, by what they say.
+/// Returns the order that the words after the name of a change or of a pin mean.
 fn order_of(alloc: Global, name: LineName, said: &[Said<'_>]) -> Result<Option<Order>, AllocError>
     requires { AreBodies said.now }
     ensures { IfOk result (λ order. order ≡ order_said name said.now) }
@@ -119,7 +119,7 @@ fn order_of(alloc: Global, name: LineName, said: &[Said<'_>]) -> Result<Option<O
     }
 }
 
-/// What a line asks for after lines that asked for these jobs, or what is wrong with its words.
+/// Reads the order of a line, after lines that queued these jobs, or returns the fault of its words.
 pub fn read_order(alloc: Global, jobs: &[Job], line: &[u8]) -> Result<Order, Unanswered<OwnFault>>
     ensures answer { IfOk result (AsksFor jobs.now line.now) }
     ensures refused { IfErr result (IsWrong (IsBatchFault jobs.now (words_of line.now))) }

@@ -1,5 +1,5 @@
-//! The jobs run: the database and the pincushion of a batch stand under their locks, beside new nodes, and each
-//! worker has a client of them.
+//! Running jobs: the database and the pincushion of a batch are put under their locks, with new nodes, and each
+//! worker gets a client of them.
 ghost use Rattle.std.specs.Prelude.{◌≡◌, ◌≤◌, ℕ, List, All, IfErr, IfOk, length, map, vec_len};
 ghost use Rattle.txc_stream.specs.declared.row.TheConstants.{MAX_CAPACITY as MAX_ROW};
 ghost use Rattle.txc_registry.specs.Objects.{numbers_of};
@@ -26,7 +26,7 @@ use txc_shared::{NodeSettings, SharedNode};
 use txc_stream::EventRow;
 use txc_work::{BatchError, Outcome, Receipted};
 
-/// So many rows, each with so much room.
+/// Makes a log for each of `nodes` nodes, each with room for `room` records.
 fn node_rows(alloc: Global, nodes: usize, room: usize) -> Result<Vec<EventRow<Record>>, AllocError>
     requires room { (1 ≤ room) × (room ≤ MAX_ROW) }
     ensures count { IfOk result (λ rows. vec_len rows ≡ nodes) }
@@ -39,7 +39,7 @@ fn node_rows(alloc: Global, nodes: usize, room: usize) -> Result<Vec<EventRow<Re
     Ok(rows)
 }
 
-/// The nodes of the rows, by their numbers.
+/// Makes the nodes of the logs, by their numbers.
 fn nodes<A: App, J: Naming>(
     rt: &impl Wait,
     alloc: Global,
@@ -63,7 +63,7 @@ fn nodes<A: App, J: Naming>(
     Ok(nodes)
 }
 
-/// A client of the database, the pincushion and the nodes for each registry.
+/// Makes a client of the database, the pincushion and the nodes for each registry.
 fn clients<'a, A: App, C: Cacheable, J: Naming>(
     rt: &impl Wait,
     alloc: Global,
@@ -92,8 +92,7 @@ fn clients<'a, A: App, C: Cacheable, J: Naming>(
     Ok(clients)
 }
 
-/// What a receipt shows of the history agrees with what this front shows. This is a lemma: it does nothing when
-/// it runs.
+/// The history of a receipt agrees with that of this front. This is a lemma: it does nothing when it runs.
 fn outcome_agrees(told: &HistoryFront, outcome: &Outcome)
     requires { OutcomeIsOfRow told.now.events outcome.now }
     ensures { AgreesWith told.now.history outcome.now }
@@ -104,7 +103,7 @@ fn outcome_agrees(told: &HistoryFront, outcome: &Outcome)
     }
 }
 
-/// The same of each result.
+/// The histories of all receipts agree with that of this front. This is a lemma: it does nothing when it runs.
 fn results_agree(told: &HistoryFront, results: &[Receipted])
     requires { All (λ r. OutcomeIsOfRow told.now.events r.outcome) results.now }
     ensures { All (λ r. AgreesWith told.now.history r.outcome) results.now }
@@ -114,7 +113,7 @@ fn results_agree(told: &HistoryFront, results: &[Receipted])
     }
 }
 
-/// Runs the jobs over nodes of the rows, which are the named ones.
+/// Runs the jobs over nodes of the named logs.
 fn run_over<A, C, J, H>(
     rt: &H,
     alloc: Global,
@@ -161,8 +160,8 @@ where
     Ok(ran)
 }
 
-/// Runs the jobs over the database and the pincushion of the batch, each once, by one of the workers. Out of
-/// memory no job was run.
+/// Runs the jobs over the database and the pincushion of the batch, each once, by one of the workers. If memory
+/// for the batch cannot be allocated, it runs no job.
 pub fn run_jobs<A, C, H>(rt: &H, alloc: Global, batch: Batch<A, C>) -> Result<Ran, BatchError>
 where
     A: App + Send + Sync,

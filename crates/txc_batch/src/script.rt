@@ -19,7 +19,7 @@ use txc_script::{RunFault, Status, run_script, write_text};
 use txc_settings::Settings;
 use txc_words::OwnFault;
 
-/// The status of a run without a malformed line.
+/// Returns the status of a run without a malformed line.
 fn status_of(is_refused: bool) -> Status<OwnFault>
     ensures { result ≡ status_of is_refused }
 {
@@ -30,7 +30,7 @@ fn status_of(is_refused: bool) -> Status<OwnFault>
     }
 }
 
-/// Runs the jobs that the lines asked for, of which one was refused or none, and writes what they gave.
+/// Runs the queued jobs, and writes their results. `is_refused` is whether a line was refused.
 fn end_in_jobs<A, C, W, H>(
     rt: &H,
     alloc: Global,
@@ -57,7 +57,7 @@ where
     }
 }
 
-/// Runs the lines of a script over a new batch, and then what comes after them.
+/// Runs the lines of a script over a new batch, and then its jobs.
 fn run_lines<A, C, R, W, H>(
     rt: &H,
     alloc: Global,
@@ -85,12 +85,14 @@ where
     }
 }
 
-/// Reads a script, and writes the replies to its changes and pins, which are made in a new database and pincushion
-/// of the settings. After all lines, none of which was malformed, its jobs run over these and over new nodes. Each
-/// runs once, by workers on threads of their own, one for each registry. Then a line is written for each job, in the
-/// order of the jobs. The status says what is wrong with a malformed line. A reader is read at most
-/// [`txc_script::MAX_READS`] times, where a read that was interrupted counts and is made again. One that has not
-/// reached its end by then is a read fault. The writer is flushed before the jobs run and at the end.
+/// Reads a script, and writes the replies to its changes and pins, which are made in a new database and
+/// pincushion by the settings. After all lines, if none was malformed, its jobs run over these and over new
+/// nodes, each once, by workers on threads of their own, one for each registry. Then it writes a line for each
+/// job, in the order of the jobs. The status has the fault of a malformed line.
+///
+/// It reads the reader at most [`txc_script::MAX_READS`] times, where an interrupted read counts and is
+/// repeated; if it has not reached the end by then, that is a read fault. It flushes the writer before the jobs
+/// run and at the end.
 pub fn run_batch_script<A, C, R, W, H>(
     rt: &H,
     alloc: Global,

@@ -1,4 +1,4 @@
-//! What jobs run over: a database and its pincushion, which changes and pins prepare.
+//! The database of a batch and its pincushion, which changes and pins prepare.
 ghost use Rattle.std.specs.Prelude.{◌≡◌, ◌≤◌, IfOk};
 ghost use Rattle.txc_stream.specs.declared.row.TheConstants.{MAX_CAPACITY as MAX_ROW};
 
@@ -36,7 +36,8 @@ impl Model for Source {
 impl Source {
     ghost use Rattle.txc_batch.specs.Sources.{MakesPin, MakesChange, HasAddedPin, IsNewSource};
 
-    /// An empty database, with room for so many events, and no pin.
+    /// Makes an empty database, with room for `row_cap` events, and a pincushion without pins. Fails only if
+    /// memory cannot be allocated.
     pub fn new(alloc: Global, row_cap: usize) -> Result<Source, DbError>
         requires { (1 ≤ row_cap) × (row_cap ≤ MAX_ROW) }
         ensures { IfOk result (IsNewSource row_cap) }
@@ -51,7 +52,7 @@ impl Source {
         })
     }
 
-    /// The database and the pincushion, as they stand.
+    /// Returns the database and the pincushion.
     pub fn into_parts(self) -> (DbCore, CushionCore)
         ensures database { result.0 ≡ self.database }
         ensures cushion { result.1 ≡ self.cushion }
@@ -65,7 +66,8 @@ impl Source {
         (database, cushion)
     }
 
-    /// Commits the change at the newest stamp, with nothing read, and answers the newest stamp after it.
+    /// Commits the change at the newest stamp, without reads, and returns the newest stamp after it. Fails as
+    /// the database's commit does.
     pub fn write(&mut self, alloc: Global, change: &Change) -> Result<Stamp, PrepareError>
         ensures { MakesChange change.now self.old result self.new }
     {
@@ -81,8 +83,8 @@ impl Source {
         }
     }
 
-    /// Pins the present, and adds the pin, which no transaction uses then. Where it is not added, its hold is taken
-    /// away.
+    /// Pins the present, adds the pin, which no transaction uses, and returns its stamp. Fails if the database
+    /// cannot pin, or the pincushion cannot add the pin; then its hold is removed.
     pub fn pin(&mut self, alloc: Global, now: u64) -> Result<Stamp, PrepareError>
         ensures { MakesPin now self.old result self.new }
     {
@@ -101,7 +103,7 @@ impl Source {
         }
     }
 
-    /// Adds a pin, and gives its user back.
+    /// Adds a pin, and removes its user.
     fn add_unused(&mut self, pinned: &Pinned) -> Result<(), AddError>
         requires { pinned.now.front.events ≡ self.old.database.events }
         ensures { HasAddedPin pinned.now self.old result self.new }

@@ -5,7 +5,7 @@ use Rattle.txc_db.specs.DatabaseValue.{next_horizon}
 use Rattle.txc_caller.specs.Ports.{HasRetired, HasVacuumedPorts}
 use Rattle.txc_caller.specs.Reading.{CallerValue, KeepsCaller}
 use Rattle.txc_c.specs.Keeping.{HasKept, HasSweptNode, HasVacuumed}
-use Rattle.txc_c.specs.declared.keeping.TxcKept.{TxcKept}
+use Rattle.txc_c.specs.declared.kept.TxcKept.{TxcKept}
 
 -- what two acts keep of the caller
 pub keeps_then : (a b c : CallerValue) → KeepsCaller a b → KeepsCaller b c → KeepsCaller a c

@@ -1,4 +1,4 @@
--- What comes of what is asked in a transaction, changed in it, and written of it once more.
+-- The effect of asks, changes and copies in a transaction.
 use Rattle.std.specs.Prelude.{◌≡◌, ◌⊎◌, ◌++◌, ◌∷◌, ℕ, [], nat_le, List, length, slice_get, Option, Some, None, Result, Ok, Err}
 use Rattle.std.specs.Bool.{MatchBool}
 use Rattle.txc_tags.specs.Keys.{Call}
@@ -39,13 +39,14 @@ use Rattle.txc_c.specs.declared.opened.Open.TheVariants.{Reading, Writing}
 use Rattle.txc_c.specs.declared.receipts.TxcQuery.{TxcQuery}
 use Rattle.txc_c.specs.declared.receipts.TxcRow.{TxcRow}
 
--- the transaction of that number made this act, and every other is as it was; or none of that number is open, and nothing is written
+-- the transaction of that number made this act, and every other is as it was; or none of that number is open,
+-- and nothing is written
 abbrev pub ActsAs : (CallerValue → Open → ℕ → CallerValue → Open → Type 0) → Type 0 → ℕ → SiteValue → ℕ → SiteValue → Type 0
 ActsAs act unwritten n old number new = OfNumber (OneHasActed act n) unwritten n old number new
 
 -- ---- steps
 
--- what comes of an ask, by this number and in the buffer
+-- the effect of an ask, with this number and in the buffer
 pub record StepAct (ask : Ask) (was is : Buffer) (c : CallerValue) (x : Open) (number : ℕ) (c' : CallerValue) (x' : Open) : Type 0 where
   pub step : Result Step CallerError
   pub is_step : IsAskStep ask c x step c' x'
@@ -69,7 +70,7 @@ FinishComesTo bytes was is n old number new =
 
 -- ---- a query
 
--- the number of what keeps a transaction from being answered, or from keeping a change
+-- the number of the error with which a request of a transaction failed
 abbrev pub txn_number : TxnError → ℕ
 txn_number Memory = NO_MEMORY
 txn_number error = REFUSED
@@ -84,7 +85,7 @@ pub record HasFoundRows (query : Query) (c : CallerValue) (w : CallerWriting) (n
     core = record w.core { queried = w.core.queried ++ query ∷ []; answers = w.core.answers ++ given.Rows query rows ∷ [] };
   }
 
--- or it is refused, and was answered nothing more
+-- or the query failed, and the transaction has no answer more
 pub record HasRefusedRows (query : Query) (c : CallerValue) (w : CallerWriting) (number count count' : ℕ) (w' : CallerWriting) : Type 0 where
   pub error : TxnError
   pub number_is : number ≡ txn_number error
@@ -101,7 +102,7 @@ abbrev pub HasReadRows : Query → ℕ → ℕ → CallerValue → CallerWriting
 HasReadRows query count count' c w number c' (Writing w') = (c' ≡ c) × HasReadRowsItself query count count' c w number w'
 HasReadRows query count count' c w number c' (Reading t) = ⊥
 
--- of a transaction that writes, if its call stands so
+-- of a transaction that writes, by the state of its call
 abbrev pub WriteQueryAct : Option Call → Query → ℕ → ℕ → CallerValue → CallerWriting → ℕ → CallerValue → Open → Type 0
 WriteQueryAct (Some top) query count count' c w number c' x' =
     StepAct (asks.Query query) (buffer [] count) (buffer [] count') c (Writing w) number c' x'
@@ -144,7 +145,7 @@ HasGivenCallUp (Reading t) (Writing w') = ⊥
 HasGivenCallUp (Writing w) (Writing w') = HasGivenWritingUp w w'
 HasGivenCallUp (Writing w) (Reading t') = ⊥
 
--- the whole open call is given up, if one is open
+-- the whole open call is cancelled, if one is open
 pub record GiveUpAct (c : CallerValue) (x : Open) (number : ℕ) (c' : CallerValue) (x' : Open) : Type 0 where
   pub number_is : number ≡ given_up_number (top_call (calling_of x))
   pub given_up : HasGivenCallUp x x'
@@ -160,7 +161,8 @@ abbrev pub change_number : Result (Unit {0}) TxnError → ℕ
 change_number (Ok kept) = DONE
 change_number (Err error) = txn_number error
 
--- of a transaction that writes: the number says what came of the change. One that only reads takes none
+-- of a transaction that writes: the number of the change's result; a transaction that only reads takes no
+-- change
 abbrev pub OpenChanges : Change → Open → ℕ → Open → Type 0
 OpenChanges change (Writing w) number (Writing w') = (kept : Result (Unit {0}) TxnError) × (number ≡ change_number kept)
     × ChangeLeaves change w w' kept
@@ -187,7 +189,7 @@ abbrev pub RemoveComesTo : ℕ → ℕ → ℕ → SiteValue → ℕ → SiteVal
 RemoveComesTo table id n old number new =
     MatchBool (nat_le table LAST_TABLE) (ChangeComesTo (Remove table id) n old number new) (Stays BAD_ARGUMENT old number new)
 
--- ---- what is written, and changes nothing
+-- ---- outputs that change nothing
 
 -- of the transaction of that number, if it is open
 abbrev pub TellsOf : (Open → ℕ → Type 0) → Type 0 → Option Open → ℕ → Type 0
@@ -204,7 +206,7 @@ abbrev pub RowOf : ℕ → TxcRow → TxcRow → Buffer → Buffer → Option Op
 RowOf at row row' was is x number =
     TellsOf (λ o n. RowTold (slice_get (rows_found o) at) n row row' was is) ((row' ≡ row) × (is ≡ was)) x number
 
--- what was answered last
+-- the last answer
 abbrev pub LastOf : Buffer → Buffer → Option Open → ℕ → Type 0
 LastOf was is x number = TellsOf (λ o n. LastTold (last_answer_of o) n was is) (is ≡ was) x number
 
@@ -220,12 +222,12 @@ StampTold None number was is = (number ≡ MISS) × (is ≡ was)
 abbrev pub ReadStampOf : ℕ → ℕ → Option Open → ℕ → Type 0
 ReadStampOf was is x number = TellsOf (λ o n. StampTold (stamp_read_next o) n was is) (is ≡ was) x number
 
--- one of the pins at which all is right that a transaction was answered, the newest first
+-- one of the pins at which all answers of the transaction are right, the newest first
 abbrev pub PinTold : Option Pin → ℕ → ℕ × ℕ → ℕ × ℕ → Type 0
 PinTold (Some pin) number was is = (number ≡ DONE) × (is ≡ (pin.stamp, pin.moment))
 PinTold None number was is = (number ≡ MISS) × (is ≡ was)
 
--- of one that only reads
+-- of a transaction that only reads
 abbrev pub MemberTold : ℕ → ℕ × ℕ → ℕ × ℕ → Open → ℕ → Type 0
 MemberTold at was is (Reading t) number = PinTold (slice_get t.core.pins.members at) number was is
 MemberTold at was is (Writing w) number = (number ≡ NOT_OPEN) × (is ≡ was)

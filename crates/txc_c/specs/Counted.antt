@@ -39,13 +39,13 @@ pub record AddsReply (function : Option ℕ) (reply : Reply Shown) (old new : To
   pub swept : new.swept ≡ old.swept + swept_by reply
   pub trimmed : new.trimmed ≡ old.trimmed + trimmed_by reply
 
--- The totals after a reply: the first 2^64 - 1 of those that are no refusal are counted.
+-- The totals after a reply: the first 2^64 - 1 replies that are not refusals are counted.
 pub record TotalsAfter (function : Option ℕ) (reply : Reply Shown) (old new : Totals) : Type 0 where
   pub counted : is_refusal reply ≡ false → old.replies + 1 < 2 ^ 64 → AddsReply function reply old new
   pub refused : is_refusal reply ≡ true → new ≡ old
   pub full : 2 ^ 64 ≤ old.replies + 1 → new ≡ old
 
--- what a step leaves: the cache after it, and its reply counted
+-- the node after a step: its cache after it, and its reply counted
 pub record LeavesCounted (old : Counted) (op : Op) (new : Counted) : Type 0 where
   pub cache : new.cache ≡ after_op MOST_VALUE_LEN old.cache op
   pub totals : TotalsAfter (function_of op) (reply_to MOST_VALUE_LEN old.cache op) old.totals new.totals
@@ -55,8 +55,8 @@ abbrev pub HasLeft : Counted → Op → Option Counted → Type 0
 HasLeft old op None = ⊥
 HasLeft old op (Some new) = LeavesCounted old op new
 
--- what a call leaves of a handle: no node where it had none; the node that it had where an argument is none of its
--- kind; else the node after the step
+-- the handle after a call: without a node, none; with the same node if an argument is malformed; else with the
+-- node after the step
 abbrev pub CallLeaves : Option Counted → Option Op → Option Counted → Type 0
 CallLeaves None asked new = new ≡ None
 CallLeaves (Some n) None new = new ≡ Some n

@@ -1,4 +1,4 @@
--- What comes of the calls of a handle that may have a site.
+-- The effect of the calls of a handle, which may have a site.
 use Rattle.std.specs.Prelude.{◌≡◌, ℕ, if◌then◌else◌, Option, Some, None}
 use Rattle.std.specs.Option.{ForSome}
 use Rattle.txc_app.specs.declared.ask.Ask.{Ask}
@@ -18,7 +18,8 @@ abbrev pub HasNewSite : TxcSiteSettings → Option SiteValue → Type 0
 HasNewSite settings (Some s) = IsNewSite settings s
 HasNewSite settings None = ⊥
 
--- what the caller owes: the function that is computed in the transaction of that number, if one is, asks this next
+-- the caller's obligation: the function that is computed in the transaction of that number, if one is, makes
+-- this ask next
 abbrev pub SiteAsksNext : Ask → ℕ → SiteValue → Type 0
 SiteAsksNext ask n s = ForSome (open_at s n) (OpenAsksNext ask)
 
@@ -26,7 +27,7 @@ SiteAsksNext ask n s = ForSome (open_at s n) (OpenAsksNext ask)
 abbrev pub HeldAsksNext : Ask → ℕ → Option SiteValue → Type 0
 HeldAsksNext ask n held = ForSome held (SiteAsksNext ask n)
 
--- What comes of a call of a handle: it has no site, and nothing is written; or this comes of it.
+-- The effect of a call of a handle: without a site, nothing is written; with one, this.
 abbrev pub ComesTo : (SiteValue → ℕ → SiteValue → Type 0) → Type 0 → Option SiteValue → ℕ → Option SiteValue → Type 0
 ComesTo does unwritten None number new = (number ≡ CLOSED) × (new ≡ None) × unwritten
 ComesTo does unwritten (Some old) number (Some new) = does old number new

@@ -1,11 +1,11 @@
--- What a keep comes to, and a pin.
+-- The effect of a keep, and of a pin.
 use Rattle.std.specs.Prelude.{◌≡◌, ◌⊎◌, ℕ, length, Result, Ok, Err}
 use Rattle.txc_cushion.specs.Cushion.{retired}
 use Rattle.txc_cushion.specs.declared.error.AddError.{AddError}
 use Rattle.txc_cushion.specs.declared.error.AddError.TheVariants as adds
 use Rattle.txc_caller.specs.Pinning.{HasNotPinned, HasPinnedNewest}
-use Rattle.txc_caller.specs.declared.pinning.PinError.{PinError}
-use Rattle.txc_caller.specs.declared.pinning.PinError.TheVariants as pins
+use Rattle.txc_caller.specs.declared.pin_error.PinError.{PinError}
+use Rattle.txc_caller.specs.declared.pin_error.PinError.TheVariants as pins
 use Rattle.txc_db.specs.DatabaseValue.{next_horizon}
 use Rattle.txc_db.specs.declared.error.DbError.{DbError}
 use Rattle.txc_shared.specs.declared.error.NodeError.{NodeError}
@@ -14,10 +14,10 @@ use Rattle.txc_caller.specs.Ports.{CallerSweepTransition, GoesOnByEvents, HasRet
 use Rattle.txc_caller.specs.Reading.{CallerValue}
 use Rattle.txc_c.specs.Sites.{SiteValue}
 use Rattle.txc_c.specs.Turning.{database_number}
-use Rattle.txc_c.specs.declared.keeping.TxcKept.{TxcKept}
+use Rattle.txc_c.specs.declared.kept.TxcKept.{TxcKept}
 use Rattle.txc_crossing.specs.declared.numbers.TheConstants.{DONE, NO_MEMORY, REFUSED}
 
--- the number of a refusal of the node
+-- the number of an error of the node
 abbrev pub node_number : NodeError → ℕ
 node_number Memory = NO_MEMORY
 node_number error = REFUSED
@@ -32,7 +32,7 @@ abbrev pub sweep_told : Result ℕ NodeError → TxcKept → TxcKept
 sweep_told (Ok count) was = record was { swept = count }
 sweep_told (Err error) was = was
 
--- it drops what ends there, and tells how many entries; or it refuses
+-- the node drops the entries that end below the horizon, and their number is written; or the sweep fails
 pub record HasSweptNode (horizon : ℕ) (old : CallerValue) (number : ℕ) (was is : TxcKept) (new : CallerValue) : Type 0 where
   pub swept : Result ℕ NodeError
   pub leads : CallerSweepTransition horizon old.ports.node new.ports.node swept
@@ -42,7 +42,7 @@ pub record HasSweptNode (horizon : ℕ) (old : CallerValue) (number : ℕ) (was 
 
 -- ---- the database
 
--- it refused, and what changed is that the node took events
+-- the vacuum failed, and the only change is that the node took events
 pub record HasRefusedVacuum (old : CallerValue) (number : ℕ) (was is : TxcKept) (new : CallerValue) : Type 0 where
   pub error : DbError
   pub number_is : number ≡ database_number error
@@ -51,7 +51,7 @@ pub record HasRefusedVacuum (old : CallerValue) (number : ℕ) (was is : TxcKept
   pub same : new ≡ record old { ports = record old.ports { node = new.ports.node } }
   pub told : is ≡ was
 
--- the node has taken the events, and is swept up to the new horizon, which is told
+-- the node has taken the events, and is swept up to the new horizon, which is written
 pub record HasVacuumedOn (old : CallerValue) (number : ℕ) (was is : TxcKept) (new : CallerValue) : Type 0 where
   pub after : CallerValue
   pub vacuumed : HasVacuumedPorts old.ports after.ports
@@ -83,7 +83,7 @@ KeepComesTo now age was is old number new =
 
 -- ---- a pin
 
--- the number of a refusal of the pincushion
+-- the number of an error of the pincushion
 abbrev pub add_number : AddError → ℕ
 add_number adds.Memory = NO_MEMORY
 add_number error = REFUSED

@@ -8,7 +8,7 @@ use Rattle.txc_crossing.specs.Crossing.{are_sizes, crossing_counts}
 use Rattle.txc_crossing.specs.declared.crossing.TxcCounts.{TxcCounts}
 use Rattle.txc_crossing.specs.declared.numbers.TheConstants.{DONE, CLOSED, ALREADY_OPEN, BAD_ARGUMENT}
 
--- the number of an opening, where memory is at hand
+-- the number of an opening that has memory
 abbrev pub open_number : Option Counted → ℕ → ℕ → ℕ
 open_number (Some n) capacity recent = ALREADY_OPEN
 open_number None capacity recent = if are_sizes capacity recent then DONE else BAD_ARGUMENT
@@ -28,12 +28,12 @@ abbrev pub totals_number : Option Counted → ℕ
 totals_number None = CLOSED
 totals_number (Some n) = DONE
 
--- the totals of the node; of no node nothing is written
+-- the totals of the node; without a node nothing is written
 abbrev pub totals_told : Option Counted → TxcTotals → TxcTotals
 totals_told None old = old
 totals_told (Some n) old = totals_of_node n
 
--- the counts of that function; of no node, and of no function, nothing is written
+-- the counts of that function; without a node, or without such a function, nothing is written
 abbrev pub counts_told : Option Counted → ℕ → TxcCounts → TxcCounts
 counts_told None function old = old
 counts_told (Some n) function old =

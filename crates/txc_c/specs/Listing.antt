@@ -1,10 +1,10 @@
--- Which transactions are open.
+-- The list of open transactions.
 use Rattle.std.specs.Prelude.{◌≡◌, ◌⊎◌, ◌≤◌, ℕ, IsSome, Option, Some, None}
 use Rattle.slab.specs.Slab.{slab_len}
 use Rattle.txc_crossing.specs.declared.numbers.TheConstants.{DONE, MISS}
 use Rattle.txc_c.specs.Sites.{open_at, SiteValue}
 
--- how many are open
+-- the number of open transactions
 abbrev pub CountTold : ℕ → SiteValue → ℕ → Type 0
 CountTold count s number = (number ≡ DONE) × (count ≡ slab_len s.opened)
 

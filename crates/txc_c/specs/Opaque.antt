@@ -8,8 +8,7 @@ use Rattle.txc_app.specs.declared.ask.Ask.TheVariants.{Done}
 use Rattle.txc_app.specs.declared.ask.Answer.{Answer}
 use Rattle.txc_app.specs.Eval.{Next}
 
--- What they ask and give. Its body is none of a proof's business, and no proof can use it: what is proved holds of
--- whatever stands here.
+-- The asks of any functions. No proof uses this body, so each theorem holds for every other body too.
 pub opaque_asks : ℕ → List ℕ → List Answer → Option Ask
 opaque_asks function args answers = Some (Done [])
 
@@ -17,6 +16,6 @@ opaque_asks function args answers = Some (Done [])
 abbrev pub caller_limits : Limits
 caller_limits = record { value = MOST_VALUE_LEN; asks = MOST_ASKS }
 
--- what they mean, within these limits
+-- the meaning of the functions, within these limits
 abbrev pub opaque_next : Next
 opaque_next = record { says = opaque_asks; limits = caller_limits }

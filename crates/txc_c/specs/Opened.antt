@@ -1,4 +1,4 @@
--- What is open at a site: a transaction that only reads, or one that writes. And what comes of an ask in either.
+-- A site's open transaction, which only reads or writes, and the effect of an ask in either.
 use Rattle.std.specs.Prelude.{◌≡◌, ◌++◌, false, IfErr, OnErr, OnOk, Option, Some, None, Result, Ok, Err}
 use Rattle.txc_tags.specs.Keys.{Call}
 use Rattle.txc_app.specs.declared.ask.Ask.{Ask}
@@ -23,12 +23,12 @@ use Rattle.txc_c.specs.declared.opened.Open.TheVariants.{Reading, Writing}
 
 -- ---- either transaction
 
--- how its call stands
+-- the state of its call
 abbrev pub calling_of : Open → Calling
 calling_of (Reading t) = t.core.call
 calling_of (Writing w) = w.core.call
 
--- what its functions were told
+-- the answers of its functions
 abbrev pub objects_of : Open → Objects
 objects_of (Reading t) = t.objects
 objects_of (Writing w) = w.objects
@@ -38,24 +38,26 @@ abbrev pub IsOpenOf : CallerValue → Open → Type 0
 IsOpenOf c (Reading t) = IsOf c t
 IsOpenOf c (Writing w) = IsWriteOf opaque_next c w
 
--- What an act of another leaves: one of the caller as it was is one of the caller as it is.
+-- The act of another transaction keeps this one: if it is one of the caller before the act, it is one of the
+-- caller after it.
 abbrev pub OpenStays : Type 0
 OpenStays = (c c' : CallerValue) (x : Open) → KeepsCaller c c' → HasGrownDatabase c.ports.database c'.ports.database → IsOpenOf c x → IsOpenOf c' x
 
--- what the caller owes: the function that is computed asks this next, if one is
+-- the caller's obligation: the function that is computed makes this ask next, if one is computed
 abbrev pub OpenAsksNext : Ask → Open → Type 0
 OpenAsksNext ask x = AsksNext opaque_next (objects_of x) (calling_of x) ask
 
 -- ---- a step
 
--- the call of which the ask is a step: the open one; or, of a call that is asked for by no function, this very call
+-- the call of which the ask is a step: the open one; or, of a call that is asked for by no function, this very
+-- call
 abbrev pub stepped_call : Ask → Calling → Option Call
 stepped_call (asks.Call k) call = Some (top_or call k)
 stepped_call ask call = top_call call
 
--- In a transaction that only reads: what comes of the step, what the function is told that is computed next, and what every
--- function was told. A function begins only if the node has no result of its call that may be used. And what the act leaves of the
--- caller, and why it was refused.
+-- In a transaction that only reads: the effect of the step, the answers that the next computed function has,
+-- and those of each function. A function begins only if the node has no result of its call that may be used.
+-- Also the effect of the act on the caller, and the cause of an error.
 pub record HasSteppedReading (ask : Ask) (k : Call) (c : CallerValue) (t : TxnValue) (step : Result Step CallerError) (c' : CallerValue)
     (t' : TxnValue) : Type 0 where
   pub is_step : IsReadingStep t.core t'.core k step
@@ -68,9 +70,9 @@ pub record HasSteppedReading (ask : Ask) (k : Call) (c : CallerValue) (t : TxnVa
   pub caller : KeepsCaller c c'
   pub grown : HasGrownDatabase c.ports.database c'.ports.database
 
--- In one that writes the same, but that no node is asked: so its outermost call begins. Each query that was answered counts as
--- read, only a function that is done gives one answer more, and a refusal has its cause. Its answers are right at its base, and the
--- caller is as it was.
+-- In a transaction that writes the same, except that no node is asked: its outermost call begins at once. Each
+-- query that was answered counts as read, only a function that is done gives one answer more, and an error has
+-- its cause. Its answers are right at its base, and the caller is unchanged.
 pub record HasSteppedWriting (ask : Ask) (k : Call) (c : CallerValue) (w : CallerWriting) (step : Result Step CallerError) (c' : CallerValue)
     (w' : CallerWriting) : Type 0 where
   pub is_step : IsWritingStep w.core w'.core k step
@@ -100,6 +102,6 @@ abbrev pub StepsIn : Option Call → Ask → CallerValue → Open → Result Ste
 StepsIn (Some k) ask c x step c' x' = HasMadeAsk ask k c x step c' x'
 StepsIn None ask c x step c' x' = (step ≡ Err NoFunction) × (x' ≡ x) × (c' ≡ c)
 
--- what comes of an ask
+-- the effect of an ask
 abbrev pub IsAskStep : Ask → CallerValue → Open → Result Step CallerError → CallerValue → Open → Type 0
 IsAskStep ask c x step c' x' = StepsIn (stepped_call ask (calling_of x)) ask c x step c' x'

@@ -9,8 +9,8 @@ use Rattle.txc_c.specs.declared.receipts.TxcQuery.{TxcQuery}
 use Rattle.txc_c.specs.declared.receipts.TxcReceipt.{TxcReceipt}
 use Rattle.txc_c.specs.declared.receipts.TxcRow.{TxcRow}
 
--- the query of a kind: 0 asks for all rows, 1 for the one with the id, 2 for the group, 3 for the ids from the first to
--- the last
+-- the query of a kind: 0 asks for all rows, 1 for the one with the id, 2 for the group, 3 for the ids from the
+-- first to the last
 abbrev pub query_of : TxcQuery → Query
 query_of q =
     if q.kind == 0 then All q.table
@@ -25,7 +25,7 @@ is_query q = nat_le q.table LAST_TABLE && nat_le q.kind 3
 abbrev pub crossing_row : RowValue → TxcRow
 crossing_row row = record { table = row.table; id = row.id; group = row.group }
 
--- how many answers there are, and the pin at which they are right, if there is one
+-- the number of answers, and the pin at which they are right, if there is one
 abbrev pub crossing_receipt : Option Pin → ℕ → TxcReceipt
 crossing_receipt None answers = record { answers = answers; has_pin = false; stamp = 0; moment = 0 }
 crossing_receipt (Some pin) answers =

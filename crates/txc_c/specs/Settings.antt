@@ -1,4 +1,4 @@
--- How a site is made, as it crosses.
+-- The settings of a site, in the struct of C.
 use Rattle.std.specs.Prelude.{◌==◌, ◌&&◌, ℕ, Bool, nat_le, if◌then◌else◌, Option, Some, None}
 use Rattle.txc_node.specs.declared.node.TheConstants.{MAX_CAPACITY, MAX_RECENT, MOST_CAPACITY}
 use Rattle.txc_stream.specs.declared.row.TheConstants.{MAX_CAPACITY as MAX_EVENTS}
@@ -8,11 +8,11 @@ use Rattle.txc_shared.specs.declared.settings.NodeSettings.{NodeSettings}
 use Rattle.txc_c.specs.declared.site_settings.TheConstants.{BYTES_END, EVENTS_END, CAPACITY_END, RECENT_END, RENEW_AFTER_END, SIZE_END, STORE_END, STORE_PLAIN, STORE_SQL}
 use Rattle.txc_c.specs.declared.site_settings.TxcSiteSettings.{TxcSiteSettings}
 
--- what a field says that ends there: 0 if it does not lie whole in the size
+-- the value of a field that ends at this offset: 0 unless the whole field is within the size
 abbrev pub said : ℕ → ℕ → ℕ → ℕ
 said size end_at value = if nat_le end_at size then value else 0
 
--- what a field comes to that has a default
+-- the value of a field that has a default
 abbrev pub or_default : ℕ → ℕ → ℕ
 or_default default value = if value == 0 then default else value
 
@@ -35,7 +35,7 @@ room_for_events events = if events == 0 then None else Some events
 abbrev pub room_of : TxcSiteSettings → Option ℕ
 room_of s = room_for_events (stored_events_of s)
 
--- how many bytes the values of the node may have in all, if it has a budget
+-- the most bytes of all values of the node, if it has a budget
 abbrev pub budget_in : ℕ → Option ℕ
 budget_in bytes = if bytes == 0 then None else Some bytes
 

@@ -13,7 +13,7 @@ use Rattle.txc_c.specs.declared.opened.Opened.{Opened}
 use Rattle.txc_c.specs.declared.opened.TheConstants.{MAX_OPEN, MOST_BEGUN}
 use Rattle.txc_c.specs.declared.site_settings.TxcSiteSettings.{TxcSiteSettings}
 
--- its caller; what is open at each place; and how many transactions have begun
+-- the site's caller, the open transaction at each place, and the number of transactions that have begun
 pub record SiteValue : Type 0 where
   pub caller : CallerValue
   pub opened : Slab Opened
@@ -27,10 +27,10 @@ of_number n (Some o) = if o.number == n then Some o.txn else None
 abbrev pub open_at : SiteValue → ℕ → Option Open
 open_at s n = of_number n (get s.opened (n % MAX_OPEN))
 
--- ---- what is true of a site
+-- ---- the invariant of a site
 
--- A number is a place and, above it, the count of those that had begun as it began, itself among them. So no two are equal, and a
--- later one is greater.
+-- A number is a place and, above it, the count of those that had begun as it began, itself among them. So no
+-- two are equal, and a later one is greater.
 pub record IsNumberOf (place count n : ℕ) : Type 0 where
   pub number : n ≡ place + MAX_OPEN * count
   pub place_fits : place < MAX_OPEN
@@ -66,9 +66,9 @@ pub record IsNewSite (settings : TxcSiteSettings) (s : SiteValue) : Type 0 where
 abbrev pub may_begin : SiteValue → Bool
 may_begin s = nat_lt (slab_len s.opened) MAX_OPEN && nat_lt s.begun MOST_BEGUN
 
--- ---- what a call leaves
+-- ---- the effect of a call
 
--- the call was refused with this number, and the site is as it was
+-- the call was refused with this number, and the site is unchanged
 abbrev pub Stays : ℕ → SiteValue → ℕ → SiteValue → Type 0
 Stays wanted old number new = (number ≡ wanted) × (new ≡ old)
 
@@ -159,6 +159,7 @@ abbrev pub ForOpen : (Open → SiteValue → ℕ → SiteValue → Type 0) → T
 ForOpen does unwritten (Some was) old number new = does was old number new
 ForOpen does unwritten None old number new = Stays NOT_OPEN old number new × unwritten
 
--- it is open, and this comes of it; or none of that number is open, and all is as it was, also what would be written
+-- the transaction is open, and this is the effect; or none of that number is open, and all is unchanged, also
+-- the outputs
 abbrev pub OfNumber : (Open → SiteValue → ℕ → SiteValue → Type 0) → Type 0 → ℕ → SiteValue → ℕ → SiteValue → Type 0
 OfNumber does unwritten n old number new = ForOpen does unwritten (open_at old n) old number new

@@ -1,4 +1,4 @@
--- What is told of a step and of what was answered last, and written for the caller.
+-- The outputs of a step, and of the last answer, for the caller.
 use Rattle.std.specs.Prelude.{◌≡◌, ℕ, ◌-◌, length, slice_get, List, [], Option, Some, None, Result, Ok, Err}
 use Rattle.txc_tags.specs.Keys.{Call}
 use Rattle.txc_rows.specs.Values.{RowValue}
@@ -19,7 +19,7 @@ use Rattle.txc_c.specs.Opened.{calling_of}
 use Rattle.txc_c.specs.declared.opened.Open.{Open}
 use Rattle.txc_c.specs.declared.opened.Open.TheVariants.{Reading, Writing}
 
--- a buffer of the caller, and the length that is written beside it
+-- a buffer of the caller, and the length that is written with it
 pub record Buffer : Type 0 where
   pub bytes : List ℕ
   pub len : ℕ
@@ -43,12 +43,12 @@ answer_bytes (answers.Rows rows) old = old
 
 -- ---- a step
 
--- why it was refused
+-- the number of a step's error
 abbrev pub error_number : CallerError → ℕ
 error_number (errors.Txn error) = REFUSED
 error_number errors.NoFunction = NOT_OPEN
 
--- what the function was told that is computed next
+-- the number of the answer that the next computed function has
 abbrev pub told_number : ℕ → Option Answer → ℕ
 told_number room (Some answer) = answer_number ANSWERED room answer
 told_number room None = ANSWERED
@@ -61,7 +61,8 @@ abbrev pub told_bytes : Option Answer → List ℕ → List ℕ
 told_bytes (Some answer) old = answer_bytes answer old
 told_bytes None old = old
 
--- its number: to compute; the value of the outermost call; or what the function was told
+-- the step's number: a function must be computed; the value of the outermost call; or the answer that the
+-- function has
 abbrev pub step_number : ℕ → Option Answer → Result Step CallerError → ℕ
 step_number room told (Ok steps.Compute) = COMPUTE
 step_number room told (Ok (steps.Value value)) = bytes_number DONE room value
@@ -78,7 +79,7 @@ step_bytes told (Ok (steps.Value value)) old = written_in value old
 step_bytes told (Ok steps.Answered) old = told_bytes told old
 step_bytes told step old = old
 
--- ---- what was answered last
+-- ---- the last answer
 
 -- an answer, and by which number it is given
 pub record Last : Type 0 where
@@ -113,7 +114,7 @@ abbrev pub last_while : Option Call → Option Answer → Option Last → Option
 last_while (Some top) told outside = last_told told
 last_while None told outside = outside
 
--- what was answered last: to the function that is computed, or else outside all functions
+-- the last answer: of the function that is computed, or else outside all functions
 abbrev pub last_answer_of : Open → Option Last
 last_answer_of x = last_while (top_call (calling_of x)) (told_answer (calling_of x)) (last_outside x)
 
@@ -125,7 +126,7 @@ abbrev pub rows_of_last : Option Last → List RowValue
 rows_of_last (Some last) = answer_rows last.answer
 rows_of_last None = []
 
--- the rows that were found last, while nothing else was answered
+-- the rows found last, if no other answer came after them
 abbrev pub rows_found : Open → List RowValue
 rows_found x = rows_of_last (last_answer_of x)
 

@@ -1,4 +1,4 @@
--- What a call writes for its caller, by the reply.
+-- The outputs of a call for its caller, by the reply.
 use Rattle.std.specs.Prelude.{◌≡◌, ℕ, List, length, Option, Some, None}
 use Rattle.txc_node.specs.declared.value.TheConstants.{MOST_VALUE_LEN}
 use Rattle.txc_node.specs.declared.hit.Shown.{Shown}
@@ -12,7 +12,7 @@ use Rattle.txc_crossing.specs.Crossing.{crossing_reach, written_in, TellsStored}
 use Rattle.txc_crossing.specs.declared.crossing.TxcReach.{TxcReach}
 use Rattle.txc_crossing.specs.declared.crossing.TxcStored.{TxcStored}
 
--- the reply to a call of a handle, where the call makes a step
+-- the reply to a call of a handle, if the call makes a step
 abbrev pub call_reply : Option Counted → Option Op → Option (Reply Shown)
 call_reply None asked = None
 call_reply (Some n) None = None
@@ -37,27 +37,27 @@ bytes_told _ old = old
 
 -- ---- of the others
 
--- of an entry that was stored its reach, and the entry that was dropped for it; any other reply writes nothing
+-- of an entry that was stored, its reach and the entry dropped for it; any other reply writes nothing
 abbrev pub StoredTold : Option (Reply Shown) → TxcStored → TxcStored → Type 0
 StoredTold (Some (replies.Inserted (Stored reach evicted))) old new = TellsStored reach evicted new
 StoredTold _ old new = new ≡ old
 
--- of an event how many entries it closed; any other reply writes nothing
+-- of an event, the number of entries that it closed; any other reply writes nothing
 abbrev pub closed_told : Option (Reply Shown) → ℕ → ℕ
 closed_told (Some (replies.Closed count)) old = count
 closed_told _ old = old
 
--- of a sweep how many entries it dropped; any other reply writes nothing
+-- of a sweep, the number of entries that it dropped; any other reply writes nothing
 abbrev pub swept_told : Option (Reply Shown) → ℕ → ℕ
 swept_told (Some (replies.Swept count)) old = count
 swept_told _ old = old
 
--- of a trim how many entries it dropped; any other reply writes nothing
+-- of a trim, the number of entries that it dropped; any other reply writes nothing
 abbrev pub trimmed_told : Option (Reply Shown) → ℕ → ℕ
 trimmed_told (Some (replies.Trimmed count)) old = count
 trimmed_told _ old = old
 
--- the stamp of the last event that the node took; of no node nothing is written
+-- the stamp of the last event that the node took; without a node nothing is written
 abbrev pub processed_told : Option Counted → ℕ → ℕ
 processed_told None old = old
 processed_told (Some n) old = n.cache.processed

@@ -1,4 +1,4 @@
--- What a node holds in all, as it crosses.
+-- The totals of a node, as C numbers.
 use Rattle.std.specs.Prelude.{ℕ, nat_le, if◌then◌else◌}
 use Rattle.txc_c.specs.declared.totals.TxcTotals.{TxcTotals}
 
@@ -6,7 +6,8 @@ use Rattle.txc_c.specs.declared.totals.TxcTotals.{TxcTotals}
 abbrev pub most_told : ℕ
 most_told = 18446744073709551615
 
--- the entries, the bytes of their values, and the entries that trims have dropped, of which no more are told than cross
+-- the entries, the bytes of their values, and the entries that trims have dropped, of which at most `most_told`
+-- are shown
 abbrev pub crossing_totals : ℕ → ℕ → ℕ → TxcTotals
 crossing_totals entries bytes trimmed = record {
   entries = entries;

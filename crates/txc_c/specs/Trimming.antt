@@ -1,4 +1,4 @@
--- What a trim of a site's node comes to, and what is told of the node.
+-- The effect of a trim of a site's node, and the output of the node's totals.
 use Rattle.std.specs.Prelude.{◌≡◌, ℕ, Result, Ok, Err}
 use Rattle.txc_shared.specs.declared.error.NodeError.{NodeError}
 use Rattle.txc_caller.specs.Budgets.{IsInBudget}
@@ -21,8 +21,8 @@ abbrev pub trim_told : Result ℕ NodeError → ℕ → ℕ
 trim_told (Ok count) was = count
 trim_told (Err error) was = was
 
--- the node keeps the longest prefix of its entries whose values have at most so many bytes in all, and it is told how many entries
--- it dropped; or it refuses, and nothing is told
+-- the node keeps the longest prefix of its entries whose values have at most `most` bytes in all, and the
+-- number of dropped entries is written; or the trim fails, and nothing is written
 pub record HasTrimmedNode (most was is : ℕ) (old : CallerValue) (number : ℕ) (new : CallerValue) : Type 0 where
   pub trimmed : Result ℕ NodeError
   pub leads : CallerTrimTransition most old.ports.node new.ports.node trimmed
@@ -35,13 +35,13 @@ abbrev pub TrimComesTo : ℕ → ℕ → ℕ → SiteValue → ℕ → SiteValue
 TrimComesTo most was is old number new =
     HasTrimmedNode most was is old.caller number new.caller × (new ≡ record old { caller = new.caller })
 
--- ---- what the node holds
+-- ---- the contents of the node
 
 abbrev pub crossing_node_totals : NodeTotals → TxcTotals
 crossing_node_totals totals = crossing_totals totals.entries totals.bytes totals.trimmed
 
--- the entries of the node, the bytes of their values in all, which are within its budget, and the entries that its trims have
--- dropped
+-- the entries of the node, the bytes of their values in all, which are within its budget, and the entries that
+-- its trims have dropped
 pub record TotalsTold (totals : TxcTotals) (s : SiteValue) (number : ℕ) : Type 0 where
   pub number_is : number ≡ DONE
   pub told : totals ≡ crossing_node_totals (totals_of s.caller.ports.node)

@@ -1,4 +1,4 @@
--- What comes of transactions that begin and end.
+-- The effect of the calls that begin and end transactions.
 use Rattle.std.specs.Prelude.{◌≡◌, ◌⊎◌, ℕ, nat_le, Bool, false, true, length, Option, Some, None}
 use Rattle.std.specs.Bool.{MatchBool}
 use Rattle.txc_tags.specs.Keys.{Call}
@@ -31,13 +31,13 @@ use Rattle.txc_c.specs.declared.opened.Open.{Open}
 use Rattle.txc_c.specs.declared.opened.Open.TheVariants.{Reading, Writing}
 use Rattle.txc_crossing.specs.declared.numbers.TheConstants.{BAD_ARGUMENT, CONFLICT, DONE, MID_CALL, NO_MEMORY, NOT_OPEN, REFUSED}
 
--- the number of a refusal of the database
+-- the number of an error of the database
 abbrev pub database_number : DbError → ℕ
 database_number (Conflict stamp) = CONFLICT
 database_number Memory = NO_MEMORY
 database_number error = REFUSED
 
--- the number of what keeps a transaction that writes from being committed
+-- the number of the error with which a commit of a transaction that writes failed
 abbrev pub write_number : WriteError → ℕ
 write_number MidCall = MID_CALL
 write_number (Database error) = database_number error
@@ -53,7 +53,7 @@ pub record MayHaveCaughtUp (old new : CallerValue) : Type 0 where
   pub taken : MayHaveTaken old.ports.database old.ports.node new.ports.node
   pub same : new ≡ record old { ports = record old.ports { node = new.ports.node } }
 
--- the node goes on, and a transaction begins within these bounds
+-- the node takes events, and a transaction begins within these bounds
 pub record BeginsReading (bounds : Bounds) (c c' : CallerValue) (x : Open) : Type 0 where
   pub first : CallerValue
   pub caught_up : MayHaveCaughtUp c first
@@ -61,7 +61,7 @@ pub record BeginsReading (bounds : Bounds) (c c' : CallerValue) (x : Open) : Typ
   pub is : x ≡ Reading txn
   pub begun : IsBegunReading opaque_next bounds first c' txn
 
--- the node goes on, and memory is wanting for the pins
+-- the node takes events, and there is no memory for the pins
 pub record HasNotBegunReading (old : SiteValue) (number : ℕ) (new : SiteValue) : Type 0 where
   pub number_is : number ≡ NO_MEMORY
   pub first : CallerValue
@@ -73,7 +73,7 @@ abbrev pub BeginsOrNot : Bounds → ℕ → ℕ → SiteValue → ℕ → SiteVa
 BeginsOrNot bounds was is old number new = ((number ≡ DONE) × HasBegunAt (BeginsReading bounds) is old new)
     ⊎ (HasNotBegunReading old number new × (is ≡ was))
 
--- if there is room for one more, this comes of it
+-- if there is room for one more transaction, this is the effect
 abbrev pub PlacedComesTo : (SiteValue → ℕ → SiteValue → Type 0) → Type 0 → SiteValue → ℕ → SiteValue → Type 0
 PlacedComesTo begins unwritten old number new =
     ((may_begin old ≡ true) × begins old number new) ⊎ (IsNoRoom old number new × unwritten)
@@ -95,7 +95,7 @@ pub record BeginsWriting (c c' : CallerValue) (x : Open) : Type 0 where
   pub could : IsHoldable c.ports.database
   pub held : c' ≡ record c { ports = record c.ports { database = after_hold c.ports.database } }
 
--- it is refused by the database for this reason, and each is as it was
+-- the database fails for this reason, and all is unchanged
 pub record IsNotBegun (reason : DbError → Type 0) (old : SiteValue) (number : ℕ) (new : SiteValue) : Type 0 where
   pub error : DbError
   pub number_is : number ≡ database_number error
@@ -103,7 +103,7 @@ pub record IsNotBegun (reason : DbError → Type 0) (old : SiteValue) (number : 
   pub caller : new.caller ≡ old.caller
   pub same : new ≡ record old { caller = new.caller; opened = record old.opened { capacity = new.opened.capacity } }
 
--- of one that writes, which begins so or is refused so
+-- of one that writes, which begins so or fails so
 abbrev pub WritesOrNot : (CallerValue → CallerValue → Open → Type 0) → (DbError → Type 0) → ℕ → ℕ → SiteValue → ℕ → SiteValue → Type 0
 WritesOrNot begins reason was is old number new = ((number ≡ DONE) × HasBegunAt begins is old new)
     ⊎ (IsNotBegun reason old number new × (is ≡ was))
@@ -130,8 +130,8 @@ BeginWriteAtComesTo stamp was is old number new = MatchBool (is_site_stamp stamp
 
 -- ---- ends
 
--- Its receipt explains each answer, whatever others did meanwhile: at its pin, which its bounds allow, each is what its call comes to
--- without a cache. Its pins are given back.
+-- Its receipt explains each answer, whatever others did meanwhile: at its pin, which its bounds allow, each
+-- answer is the result of its call without a cache. Its users of pins are returned.
 pub record HasCommitted (t : TxnValue) (receipt : TxcReceipt) (c c' : CallerValue) : Type 0 where
   pub told : receipt ≡ crossing_receipt (receipt_pin t.core.recorded t.core.pins.members) (length t.core.recorded)
   pub explained : Explains opaque_next t.core.seen.history t.core.bounds
@@ -140,7 +140,7 @@ pub record HasCommitted (t : TxnValue) (receipt : TxcReceipt) (c c' : CallerValu
   pub row : t.core.seen.events ≡ c'.ports.database.events
   pub ended : HasEndedReading t c c'
 
--- if its call stands so
+-- by the state of its call
 abbrev pub CommitsReading : Option Call → TxnValue → TxcReceipt → TxcReceipt → ℕ → SiteValue → ℕ → SiteValue → Type 0
 CommitsReading None t was is n old number new = (number ≡ DONE) × HasEndedAt (HasCommitted t is) n old new
 CommitsReading (Some top) t was is n old number new = Stays MID_CALL old number new × (is ≡ was)
@@ -149,12 +149,12 @@ abbrev pub CommitsAt : TxcReceipt → TxcReceipt → ℕ → Open → SiteValue 
 CommitsAt was is n (Reading t) old number new = CommitsReading (top_call t.core.call) t was is n old number new
 CommitsAt was is n (Writing w) old number new = Stays NOT_OPEN old number new × (is ≡ was)
 
--- of a transaction that only reads; the receipt is written if it is done
+-- of a transaction that only reads; the receipt is written if the commit is done
 abbrev pub CommitComesTo : TxcReceipt → TxcReceipt → ℕ → SiteValue → ℕ → SiteValue → Type 0
 CommitComesTo was is n old number new = OfNumber (CommitsAt was is n) (is ≡ was) n old number new
 
--- Its changes are committed, at this stamp. Each answer is right just before the commit's event, or, if it changes nothing, at the
--- newest stamp; and so it is at the base.
+-- Its changes are committed, at this stamp. Each answer is right just before the commit's event, or, if it
+-- changes nothing, at the newest stamp; and so it is at the base.
 pub record HasCommittedWrites (w : CallerWriting) (stamp : ℕ) (c c' : CallerValue) : Type 0 where
   pub committed : HasCommittedWrite c w stamp c'
   pub answer : IsCommitted opaque_next c'.ports.database.history w.core stamp
@@ -175,11 +175,11 @@ CommitsWriteAt was is n (Writing w) old number new = ((number ≡ DONE) × HasEn
     ⊎ (HasRefusedWrite w old number new × (is ≡ was))
 CommitsWriteAt was is n (Reading t) old number new = Stays NOT_OPEN old number new × (is ≡ was)
 
--- of one that writes; the stamp is written if it is done
+-- of one that writes; the stamp is written if the commit is done
 abbrev pub CommitWriteComesTo : ℕ → ℕ → ℕ → SiteValue → ℕ → SiteValue → Type 0
 CommitWriteComesTo was is n old number new = OfNumber (CommitsWriteAt was is n) (is ≡ was) n old number new
 
--- it is given up: its pins are given back, or the hold of its base is taken away
+-- it is aborted: its users of pins are returned, or the hold of its base is released
 abbrev pub HasAborted : Open → CallerValue → CallerValue → Type 0
 HasAborted (Reading t) c c' = HasEndedReading t c c'
 HasAborted (Writing w) c c' = HasAbortedWrite w c c'

@@ -1,4 +1,4 @@
-//! A node whose replies are counted.
+//! A node with counts of its replies.
 ghost use Rattle.std.specs.Prelude.{◌≡◌, ◌≢◌, ◌≤◌, [], Some, None, length, IfOk, IfSome};
 ghost use Rattle.txc_tags.specs.declared.key.TheConstants.{LAST_FUNCTION};
 ghost use Rattle.txc_node.specs.declared.value.TheConstants.{MOST_VALUE_LEN};
@@ -23,7 +23,7 @@ use txc_node::{Counts, Entry, FunctionCounts, Hit, Inserted, NodeCore, Reply};
 use txc_stamp::Stamp;
 use txc_tags::{Key, TagSet};
 
-/// Counts of replies that are no refusals, the first 2^64 - 1 of them.
+/// Counts of replies that are not errors, up to 2^64 - 1 of them.
 #[derive(Drop)]
 pub struct Tally {
     counts: Counts,
@@ -51,7 +51,7 @@ impl Tally {
         }
     }
 
-    /// Counts a reply to a step of that function, if it is of one.
+    /// Counts the reply to a step of that function, or of none.
     fn note(&mut self, function: Option<u8>, reply: &Reply<Hit<'_>>)
         requires { IfSome function (λ f. f ≤ LAST_FUNCTION) }
         ensures { TotalsAfter function (seen_reply reply.now) self.old self.new }
@@ -77,7 +77,7 @@ impl Tally {
     }
 }
 
-/// A node, and counts of its replies.
+/// A node, with counts of its replies.
 #[derive(Drop)]
 pub struct CountedNode {
     node: NodeCore,
@@ -92,7 +92,7 @@ impl Model for CountedNode {
     ghost view = { λ n. record { cache = n.node; totals = n.tally } };
 }
 
-/// Writes what a hit shows, and the value where there is room for it.
+/// Writes the reach and the length of a hit, and its value if there is room for it.
 fn tell_hit(hit: &Hit<'_>, reach: &mut TxcReach, value: &mut [u8], len: &mut usize) -> u32
     ensures number { result ≡ hit_number (length value.old) (seen hit.now) }
     ensures reach { reach.new ≡ crossing_reach (seen hit.now).reach }
@@ -103,7 +103,7 @@ fn tell_hit(hit: &Hit<'_>, reach: &mut TxcReach, value: &mut [u8], len: &mut usi
     tell(DONE, hit.value.bytes(), value, len)
 }
 
-/// Writes what an insertion stored.
+/// Writes the result of an insertion that stored its entry.
 fn tell_stored(inserted: &Inserted, stored: &mut TxcStored) -> u32
     ensures number { result ≡ inserted_number inserted.now }
     ensures told { StoredTold (Some (replies.Inserted inserted.now)) stored.old stored.new }
@@ -133,14 +133,14 @@ impl CountedNode {
         })
     }
 
-    /// The stamp of the last event that was taken.
+    /// Returns the stamp of the last event that it took.
     pub(crate) fn processed(&self) -> Stamp
         ensures { result ≡ self.now.cache.processed }
     {
         self.node.processed()
     }
 
-    /// The counts of a function.
+    /// Returns the counts of a function.
     pub(crate) fn counts(&self, function: u8) -> FunctionCounts
         requires { function ≤ LAST_FUNCTION }
         ensures { result ≡ counts_of self.now.totals.functions function }
@@ -148,14 +148,14 @@ impl CountedNode {
         self.tally.of(function)
     }
 
-    /// Returns what it holds in all, and how many entries trims have dropped.
+    /// Returns the number and size of its entries, and how many entries trims have dropped.
     pub(crate) fn totals(&self) -> TxcTotals
         ensures { result ≡ totals_of_node self.now }
     {
         TxcTotals::of(self.node.len(), self.node.bytes(), self.tally.trimmed())
     }
 
-    /// [`NodeCore::lookup`], whose hit is written.
+    /// Does [`NodeCore::lookup`], and writes its hit.
     pub(crate) fn lookup(
         &mut self,
         key: &Key,
@@ -190,7 +190,7 @@ impl CountedNode {
         }
     }
 
-    /// [`NodeCore::insert`], of which it is written what was stored. Only memory may refuse it.
+    /// Does [`NodeCore::insert`], and writes the result. Fails only if memory cannot be allocated.
     pub(crate) fn insert(&mut self, entry: Entry, stored: &mut TxcStored) -> u32
         requires { entry_refusal MOST_VALUE_LEN entry ≡ None }
         ensures number { result ≢ NO_MEMORY
@@ -209,7 +209,7 @@ impl CountedNode {
         number
     }
 
-    /// [`NodeCore::event`], of which it is written how many entries it closed.
+    /// Does [`NodeCore::event`], and writes how many entries it closed.
     pub(crate) fn event(&mut self, stamp: Stamp, tags: TagSet, closed: &mut usize) -> u32
         ensures number { result ≡ reply_number 0 (reply_to MOST_VALUE_LEN self.old.cache (steps.Event stamp tags)) }
         ensures after { LeavesCounted self.old (steps.Event stamp tags) self.new }
@@ -224,7 +224,7 @@ impl CountedNode {
         DONE
     }
 
-    /// [`NodeCore::sweep`], of which it is written how many entries it dropped.
+    /// Does [`NodeCore::sweep`], and writes how many entries it dropped.
     pub(crate) fn sweep(&mut self, horizon: Stamp, swept: &mut usize) -> u32
         ensures number { result ≡ reply_number 0 (reply_to MOST_VALUE_LEN self.old.cache (steps.Sweep horizon)) }
         ensures after { LeavesCounted self.old (steps.Sweep horizon) self.new }
@@ -237,7 +237,7 @@ impl CountedNode {
         DONE
     }
 
-    /// [`NodeCore::trim`], of which it is written how many entries it dropped.
+    /// Does [`NodeCore::trim`], and writes how many entries it dropped.
     pub(crate) fn trim(&mut self, most: usize, dropped: &mut usize) -> u32
         ensures number { result ≡ reply_number 0 (reply_to MOST_VALUE_LEN self.old.cache (steps.Trim most)) }
         ensures after { LeavesCounted self.old (steps.Trim most) self.new }

@@ -1,11 +1,12 @@
-//! The handle of a node: a pointer to one that stands on the heap.
-ghost use Rattle.std.specs.Prelude.{◌≡◌, Bool, true, false};
+//! The handle of a node: a pointer to one on the heap.
+ghost use Rattle.std.specs.Prelude.{◌≡◌, Bool, true, false, Some, None};
 ghost use Rattle.txc_c.specs.Counted.{Counted};
+ghost use Rattle.std.specs.Option.{option_map};
 
 use crate::counted::CountedNode;
 use std::alloc::Global;
 use std::marker::Model;
-use std::ptr;
+use std::{mem, ptr};
 use txc_parts::Parts;
 
 /// A pointer to a node, or to none.
@@ -18,7 +19,7 @@ pub struct Slot {
 }
 
 impl Drop for Slot {
-    /// A slot that is full is not let go: its node would never be freed.
+    /// A full slot must not be dropped: its node would never be freed.
     fn drop(self)
         requires { self.is_full ≡ false }
     {
@@ -70,13 +71,13 @@ impl Slot {
 /// The handle of a node, or of none.
 #[repr(C)]
 pub struct TxcNode {
-    pub(crate) slot: Slot,
-    pub(crate) is_open: bool,
+    slot: Slot,
+    is_open: bool,
     ghost full: { is_open ≡ slot.is_full },
 }
 
 impl Drop for TxcNode {
-    /// An open handle is not let go.
+    /// An open handle must not be dropped.
     fn drop(self)
         requires { self.is_open ≡ false }
     {
@@ -88,7 +89,9 @@ impl Drop for TxcNode {
 }
 
 impl TxcNode {
-    /// Its slot, and whether that has a node.
+    ghost use Rattle.txc_c.specs.Held.{held};
+
+    /// Returns its slot, and whether that has a node.
     pub(crate) fn into_slot(self) -> (Slot, bool)
         ensures slot { result.0 ≡ self.slot }
         ensures open { result.1 ≡ self.is_open }
@@ -97,14 +100,54 @@ impl TxcNode {
         let TxcNode { slot, is_open } = self;
         (slot, is_open)
     }
+
+    /// Returns `true` if it has a node.
+    pub(crate) fn is_open(&self) -> bool
+        ensures { result ≡ self.now.is_open }
+    {
+        self.is_open
+    }
+
+    pub(crate) fn closed(alloc: Global) -> TxcNode
+        ensures { held result ≡ None }
+    {
+        TxcNode {
+            slot: Slot::empty(alloc),
+            is_open: false,
+        }
+    }
+
+    /// Takes the node out, if there is one.
+    pub(crate) fn take(&mut self, alloc: Global) -> Option<Box<CountedNode, Global>>
+        ensures node { option_map (λ node. node.value) result ≡ held self.old }
+        ensures after { held self.new ≡ None }
+    {
+        let (slot, is_open) = mem::replace(self, TxcNode::closed(alloc)).into_slot();
+        if is_open {
+            Some(slot.into_parts().into_box())
+        } else {
+            None
+        }
+    }
+
+    /// Puts a node into an empty handle.
+    pub(crate) fn put(&mut self, node: Box<CountedNode, Global>)
+        requires { held self.old ≡ None }
+        ensures { held self.new ≡ Some node.value }
+    {
+        *self = TxcNode {
+            slot: Slot::of_parts(Parts::of(node)),
+            is_open: true,
+        };
+    }
 }
 
-// What the slot points to may go to another thread, and so may the slot.
+// A node may go to another thread, and so may the slot that points to it.
 unsafe impl Send for Slot {}
 
 pub(crate) fn crosses<T: Send>(_it: &T) {}
 
-/// A handle may go to another thread: this is compiled only where that is proved. It does nothing.
+/// Shows that a handle may go to another thread: this compiles only if that is proved. It does nothing.
 pub fn handle_crosses(handle: &TxcNode) {
     crosses(handle);
 }

@@ -1,33 +1,28 @@
-//! The versioned cache of one node, and a database with its pins and a node, for callers in C: a static library.
+//! The versioned cache of one node, and a database with its pins and a node, for callers in C: a static
+//! library.
 //!
-//! Each export is a call of a node or of a site over what can cross: numbers, structs of numbers, and slices as a pointer
-//! and a length. Its contract says the same of what stands behind the handle, which number is returned, and what is written
-//! where. The header is `bindings/c/txc.h`.
+//! Each export is a call of a node or of a site with arguments that can cross: numbers, structs of numbers, and
+//! slices as a pointer and a length. Its contract specifies the effect on the node or site behind the handle,
+//! the returned number, and what is written where. The header is `bindings/c/txc.h`.
 #![tactic(auto)]
 
-mod asking;
-mod changing;
 mod counted;
 mod handle;
-mod keeping;
-mod listing;
+mod kept;
 mod node;
+mod numbers;
 mod opaque;
 mod opened;
 mod receipts;
 mod site;
 mod site_handle;
 mod site_settings;
-mod site_taking;
-mod taking;
 mod telling;
 mod totals;
-mod trimming;
-mod turning;
 mod txn;
 
 pub use handle::{TxcNode, handle_crosses};
-pub use keeping::TxcKept;
+pub use kept::TxcKept;
 pub use node::{
     txc_node_close, txc_node_count, txc_node_event, txc_node_insert, txc_node_lookup,
     txc_node_open, txc_node_sweep, txc_node_totals, txc_node_trim,

@@ -1,4 +1,4 @@
-//! The exports.
+//! The exports of a node.
 ghost use Rattle.std.specs.Prelude.{◌≡◌, ◌≢◌, Some, None, length, if◌then◌else◌, IfOk};
 ghost use Rattle.txc_node.specs.declared.value.TheConstants.{MOST_VALUE_LEN};
 ghost use Rattle.txc_node.specs.declared.op.Op.TheVariants as steps;
@@ -21,7 +21,8 @@ use txc_crossing::{
 use txc_node::{Entry, MOST_VALUE_LEN};
 use txc_tags::LAST_FUNCTION;
 
-/// Makes a node for at most `capacity` entries, that keeps the tags of the last `recent` events.
+/// Makes a node for at most `capacity` entries, which stores the tags of the last `recent` events. Returns
+/// `DONE`, `ALREADY_OPEN`, `BAD_ARGUMENT` or `NO_MEMORY`; only `DONE` changes the handle.
 #[unsafe(no_mangle)]
 pub extern "C" fn txc_node_open(
     alloc: Global,
@@ -50,7 +51,7 @@ pub extern "C" fn txc_node_open(
     DONE
 }
 
-/// Gives the node up, with all that it holds.
+/// Closes the node, and frees all that it has.
 #[unsafe(no_mangle)]
 pub extern "C" fn txc_node_close(alloc: Global, handle: &mut TxcNode) -> u32
     ensures number { result ≡ close_number (held handle.old) }
@@ -88,8 +89,8 @@ fn lookup(
     node.lookup(&key, lo, hi, reach, value, len)
 }
 
-/// Looks a key up at the stamps from `lo` to `hi`, both included. A hit writes its reach, the length of its
-/// value, and the value where the buffer has room for it.
+/// Looks a key up at the stamps from `lo` to `hi`, both included. A hit writes its reach and the length of its
+/// value, and the value if the buffer has room for it.
 #[unsafe(no_mangle)]
 pub extern "C" fn txc_node_lookup(
     alloc: Global,
@@ -115,7 +116,7 @@ pub extern "C" fn txc_node_lookup(
     number
 }
 
-/// The entry that an insertion asks for; Err if memory is refused, or an argument is none of its kind.
+/// Makes the entry of an insertion. Fails if memory cannot be allocated, or an argument is out of its range.
 fn entry_of(
     alloc: Global,
     key: &TxcKey,
@@ -179,7 +180,7 @@ fn insert(
     node.insert(entry, stored)
 }
 
-/// Inserts an entry, and writes what was stored.
+/// Inserts an entry, and writes the stored one's reach. If this returns `NO_MEMORY`, nothing has changed.
 #[unsafe(no_mangle)]
 pub extern "C" fn txc_node_insert(
     alloc: Global,
@@ -238,8 +239,8 @@ fn event(
     node.event(stamp, tags, closed)
 }
 
-/// Takes the next event, and writes how many entries it closed. The stamp of the last event that was taken is
-/// written of every node.
+/// Takes the next event, and writes how many entries it closed. For every open node it writes the stamp of the
+/// last event that was taken.
 #[unsafe(no_mangle)]
 pub extern "C" fn txc_node_event(
     alloc: Global,
@@ -267,7 +268,7 @@ pub extern "C" fn txc_node_event(
     number
 }
 
-/// Drops the entries whose span ends at the horizon or before it, and writes how many they were.
+/// Drops the entries whose span ends at the horizon or before it, and writes how many.
 #[unsafe(no_mangle)]
 pub extern "C" fn txc_node_sweep(
     alloc: Global,
@@ -290,8 +291,8 @@ pub extern "C" fn txc_node_sweep(
     number
 }
 
-/// Keeps the longest prefix of the entries, the most recently used first, whose values have at most `most` bytes in
-/// all. Writes how many entries it dropped.
+/// Keeps the longest prefix of the entries, the most recently used first, whose values have at most `most`
+/// bytes in all. Writes how many entries it dropped.
 #[unsafe(no_mangle)]
 pub extern "C" fn txc_node_trim(
     alloc: Global,
@@ -311,7 +312,8 @@ pub extern "C" fn txc_node_trim(
     number
 }
 
-/// Writes how many entries there are, how many bytes their values have in all, and how many entries trims have dropped.
+/// Writes how many entries there are, how many bytes their values have in all, and how many entries trims have
+/// dropped.
 #[unsafe(no_mangle)]
 pub extern "C" fn txc_node_totals(
     alloc: Global,
@@ -330,7 +332,7 @@ pub extern "C" fn txc_node_totals(
     DONE
 }
 
-/// Writes how often something was replied about the calls of a function.
+/// Writes the counts of the replies about the calls of a function.
 #[unsafe(no_mangle)]
 pub extern "C" fn txc_node_count(
     alloc: Global,

@@ -1,7 +1,8 @@
 use txc_app::{App, Limits, MOST_ASKS};
 use txc_node::MOST_VALUE_LEN;
 
-/// The application of a caller in C. No proof looks at what its functions ask and give: that is his.
+/// The application of a caller in C. No proof knows the requests and values of its functions: these are the
+/// caller's.
 pub(crate) struct Opaque;
 
 impl App for Opaque {

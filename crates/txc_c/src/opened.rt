@@ -1,27 +1,32 @@
-//! What is open at a site: transactions, each with its number.
+//! The open transactions of a site, each with its number.
 ghost use Rattle.std.specs.Prelude.{◌≡◌, ◌↔◌, ◌%◌, ◌<◌, IsSome, IsTrue, MatchOption, None, Some};
 ghost use Rattle.slab.specs.Slab.{HasRoomFor};
 ghost use Rattle.txc_caller.specs.Reading.{CallerValue};
 ghost use Rattle.txc_caller.specs.Telling.{told_answer, top_call};
-ghost use Rattle.txc_c.specs.Asking.{stamp_read_next, HasGivenCallUp};
+ghost use Rattle.txc_c.specs.Asking.{stamp_read_next, HasGivenCallUp, OpenChanges};
 ghost use Rattle.txc_c.specs.Opened.{calling_of, IsOpenOf, IsAskStep, OpenAsksNext, OpenStays};
 ghost use Rattle.txc_c.specs.Sites.{HasPutAtPlace};
 
+mod asking;
+
+use crate::numbers::change_number;
 use crate::opaque::Opaque;
 use slab::Slab;
 use std::alloc::Global;
 use txc_app::{Answer, Ask};
 use txc_caller::{Caller, CallerError, CallerTxn, CallerWrite, Step};
+use txc_crossing::NOT_OPEN;
 use txc_db::states_stay;
+use txc_rows::Change;
 use txc_stamp::Stamp;
 
-/// How many transactions are open at a site at most.
+/// The most open transactions of a site.
 pub const MAX_OPEN: u64 = 65_536;
 
-/// How many transactions begin at a site at most: 2^48 - 1.
+/// The most transactions that can begin at a site: 2^48 - 1.
 pub const MOST_BEGUN: u64 = 281_474_976_710_655;
 
-/// A transaction that only reads, or one that writes.
+/// A read-only transaction, or a read-write one.
 #[derive(Drop)]
 pub(crate) enum Open {
     Reading(CallerTxn<Opaque>),
@@ -42,7 +47,7 @@ pub(crate) fn place_of(number: u64) -> usize
     (number % MAX_OPEN) as usize
 }
 
-/// Puts a transaction at its place, and returns its number.
+/// Stores a transaction at its place, and returns its number.
 pub(crate) fn add(opened: &mut Slab<Opened>, begun: &mut u64, txn: Open) -> u64
     requires room { HasRoomFor opened.old 1 }
     requires place { opened.old.vacant_key < MAX_OPEN }
@@ -55,7 +60,7 @@ pub(crate) fn add(opened: &mut Slab<Opened>, begun: &mut u64, txn: Open) -> u64
     number
 }
 
-/// What an act of one leaves of the others. It does nothing when it runs.
+/// An act of one transaction leaves the others open and correct. It does nothing when it runs.
 pub(crate) fn acts_leave_others()
     ensures { OpenStays }
 {
@@ -63,7 +68,7 @@ pub(crate) fn acts_leave_others()
 }
 
 impl Open {
-    /// Makes an ask: one of the function that is computed, or the call that the transaction asks for.
+    /// Makes a step: of the function being computed, or the call that the transaction requests.
     pub(crate) fn step(
         &mut self,
         alloc: Global,
@@ -89,7 +94,7 @@ impl Open {
         }
     }
 
-    /// Gives the whole open call up, and returns whether one was open.
+    /// Cancels the whole open call, and returns `true` if there was one.
     pub(crate) fn give_up(&mut self) -> bool
         ensures answer { IsTrue result ↔ IsSome (top_call (calling_of self.old)) }
         ensures given_up { HasGivenCallUp self.old self.new }
@@ -101,7 +106,21 @@ impl Open {
         }
     }
 
-    /// Returns whether a function is computed.
+    /// Buffers a change until the transaction commits, if it is a read-write one.
+    pub(crate) fn change(&mut self, change: Change) -> u32
+        ensures changed { OpenChanges change self.old result self.new }
+        ensures of_caller { (c : CallerValue) → IsOpenOf c self.old → IsOpenOf c self.new }
+    {
+        match self {
+            Open::Writing(write) => match change {
+                Change::Put(row) => change_number(write.put(row)),
+                Change::Remove(table, id) => change_number(write.remove(table, id)),
+            },
+            Open::Reading(_) => NOT_OPEN,
+        }
+    }
+
+    /// Returns `true` if a function is being computed.
     pub(crate) fn is_computing(&self) -> bool
         ensures { IsTrue result ↔ IsSome (top_call (calling_of self.now)) }
     {
@@ -111,7 +130,8 @@ impl Open {
         }
     }
 
-    /// Returns the answer with which the function that is computed continues; none if it is to begin, or if none is computed.
+    /// Returns the answer with which the function being computed continues, or `None` if it must begin, or if
+    /// none is being computed.
     pub(crate) fn told(&self) -> Option<&Answer>
         ensures { MatchOption result (told_answer (calling_of self.now) ≡ None)
             (λ answer. told_answer (calling_of self.now) ≡ Some answer.now) }
@@ -122,7 +142,8 @@ impl Open {
         }
     }
 
-    /// Returns the stamp of the state that its next query reads; none if that pins the present first.
+    /// Returns the stamp of the state that its next query reads, or `None` if that query pins the present
+    /// first.
     pub(crate) fn read_stamp(&self) -> Option<Stamp>
         ensures { result ≡ stamp_read_next self.now }
     {

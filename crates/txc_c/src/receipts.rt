@@ -1,4 +1,4 @@
-//! Rows, queries and receipts, as they cross.
+//! Rows, queries and receipts, as structs of numbers.
 ghost use Rattle.std.specs.Prelude.{◌≡◌, IfSome, is_some};
 ghost use Rattle.txc_c.specs.Receipts.{crossing_receipt, crossing_row, is_query, query_of};
 
@@ -6,7 +6,7 @@ use txc_cushion::Pin;
 use txc_rows::{Query, Row};
 use txc_tags::Table;
 
-/// A row, but for its body.
+/// A row without its body.
 #[repr(C)]
 #[derive(Clone, Copy)]
 pub struct TxcRow {
@@ -15,8 +15,8 @@ pub struct TxcRow {
     pub group: u32,
 }
 
-/// A query. Kind 0 is all rows of the table, 1 the row with the id `first`, 2 those of the group `first`, 3 those with ids from
-/// `first` to `last`.
+/// A query. Kind 0 is all rows of the table, 1 the row with the id `first`, 2 the rows of the group `first`, 3
+/// the rows with ids from `first` to `last`.
 #[repr(C)]
 #[derive(Clone, Copy)]
 pub struct TxcQuery {
@@ -26,7 +26,7 @@ pub struct TxcQuery {
     pub last: u32,
 }
 
-/// A receipt: how many answers it explains, and the pin at which they are right, if there is one.
+/// A receipt: the number of values that it explains, and the pin at which they are correct, if there is one.
 #[repr(C)]
 #[derive(Clone, Copy)]
 pub struct TxcReceipt {
@@ -49,7 +49,7 @@ impl TxcRow {
 }
 
 impl TxcQuery {
-    /// The query; None if there is no such table or no such kind.
+    /// Returns the query, or `None` if there is no such table or no such kind.
     pub(crate) fn query(&self) -> Option<Query>
         ensures asked { IfSome result (λ query. query ≡ query_of self.now) }
         ensures there { is_some result ≡ is_query self.now }

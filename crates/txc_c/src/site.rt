@@ -1,8 +1,16 @@
-//! A database, its pincushion and a node, and the transactions that are open over them, whose functions the caller computes.
+//! A database, its pincushion and a node, and the open transactions over them, whose functions the caller
+//! computes.
 ghost use Rattle.std.specs.Prelude.{◌≡◌, IfErr, IfOk, MatchOption, None, Some, true};
 ghost use Rattle.txc_db.specs.Refusals.{IsWant};
 ghost use Rattle.txc_c.specs.Settings.{are_settings};
 ghost use Rattle.txc_c.specs.Sites.{may_begin, open_at, IsNewSite};
+
+mod asking;
+mod changing;
+mod keeping;
+mod listing;
+mod trimming;
+mod turning;
 
 use crate::opaque::Opaque;
 use crate::opened::{MAX_OPEN, MOST_BEGUN, Open, Opened, place_of};
@@ -13,14 +21,14 @@ use std::marker::Model;
 use txc_caller::Caller;
 use txc_db::DbError;
 
-/// A caller, and what is open at it.
+/// A caller, and its open transactions.
 #[derive(Drop)]
 pub(crate) struct Site {
-    pub(crate) caller: Caller<Opaque>,
-    // The transactions that are open. Each stands at the place that its number names.
-    pub(crate) opened: Slab<Opened>,
-    // How many transactions have begun.
-    pub(crate) begun: u64,
+    caller: Caller<Opaque>,
+    // The open transactions. Each is at the place that its number determines.
+    opened: Slab<Opened>,
+    // The number of transactions that have begun.
+    begun: u64,
 }
 
 impl Model for Site {
@@ -34,7 +42,8 @@ impl Model for Site {
 }
 
 impl Site {
-    /// An empty database with the room that the settings name, an empty pincushion and an empty node. Nothing is open.
+    /// Makes an empty database with the room of the settings, an empty pincushion and an empty node, without
+    /// open transactions.
     pub(crate) fn new(alloc: Global, settings: &TxcSiteSettings) -> Result<Site, DbError>
         requires { are_settings settings.now ≡ true }
         ensures made { IfOk result (IsNewSite settings.now) }
@@ -55,7 +64,7 @@ impl Site {
         })
     }
 
-    /// Returns whether one more transaction may begin.
+    /// Returns `true` if one more transaction may begin.
     pub(crate) fn has_place(&self) -> bool
         ensures { result ≡ may_begin self.now }
     {

@@ -1,12 +1,13 @@
-//! The handle of a site: a pointer to one that stands on the heap.
-ghost use Rattle.std.specs.Prelude.{◌≡◌, Bool, true, false};
+//! The handle of a site: a pointer to one on the heap.
+ghost use Rattle.std.specs.Prelude.{◌≡◌, Bool, true, false, Some, None};
 ghost use Rattle.txc_c.specs.Sites.{SiteValue};
+ghost use Rattle.std.specs.Option.{option_map};
 
 use crate::handle::crosses;
 use crate::site::Site;
 use std::alloc::Global;
 use std::marker::Model;
-use std::ptr;
+use std::{mem, ptr};
 use txc_parts::Parts;
 
 /// A pointer to a site, or to none.
@@ -19,7 +20,7 @@ pub struct SiteSlot {
 }
 
 impl Drop for SiteSlot {
-    /// A slot that is full is not let go: its site would never be freed.
+    /// A full slot must not be dropped: its site would never be freed.
     fn drop(self)
         requires { self.is_full ≡ false }
     {
@@ -71,13 +72,13 @@ impl SiteSlot {
 /// The handle of a site, or of none.
 #[repr(C)]
 pub struct TxcSite {
-    pub(crate) slot: SiteSlot,
-    pub(crate) is_open: bool,
+    slot: SiteSlot,
+    is_open: bool,
     ghost full: { is_open ≡ slot.is_full },
 }
 
 impl Drop for TxcSite {
-    /// An open handle is not let go.
+    /// An open handle must not be dropped.
     fn drop(self)
         requires { self.is_open ≡ false }
     {
@@ -89,7 +90,9 @@ impl Drop for TxcSite {
 }
 
 impl TxcSite {
-    /// Its slot, and whether that has a site.
+    ghost use Rattle.txc_c.specs.SiteHeld.{site_held};
+
+    /// Returns its slot, and whether that has a site.
     pub(crate) fn into_slot(self) -> (SiteSlot, bool)
         ensures slot { result.0 ≡ self.slot }
         ensures open { result.1 ≡ self.is_open }
@@ -98,12 +101,53 @@ impl TxcSite {
         let TxcSite { slot, is_open } = self;
         (slot, is_open)
     }
+
+    /// Returns `true` if it has a site.
+    pub(crate) fn is_open(&self) -> bool
+        ensures { result ≡ self.now.is_open }
+    {
+        self.is_open
+    }
+
+    pub(crate) fn closed(alloc: Global) -> TxcSite
+        ensures { site_held result ≡ None }
+    {
+        TxcSite {
+            slot: SiteSlot::empty(alloc),
+            is_open: false,
+        }
+    }
+
+    /// Takes the site out, if there is one.
+    pub(crate) fn take(&mut self, alloc: Global) -> Option<Box<Site, Global>>
+        ensures site { option_map (λ site. site.value) result ≡ site_held self.old }
+        ensures after { site_held self.new ≡ None }
+    {
+        let (slot, is_open) = mem::replace(self, TxcSite::closed(alloc)).into_slot();
+        if is_open {
+            Some(slot.into_parts().into_box())
+        } else {
+            None
+        }
+    }
+
+    /// Puts a site into an empty handle.
+    pub(crate) fn put(&mut self, site: Box<Site, Global>)
+        requires { site_held self.old ≡ None }
+        ensures { site_held self.new ≡ Some site.value }
+    {
+        *self = TxcSite {
+            slot: SiteSlot::of_parts(Parts::of(site)),
+            is_open: true,
+        };
+    }
 }
 
-// What the slot points to may go to another thread, and so may the slot.
+// A site may go to another thread, and so may the slot that points to it.
 unsafe impl Send for SiteSlot {}
 
-/// The handle of a site may go to another thread: this is compiled only where that is proved. It does nothing.
+/// Shows that the handle of a site may go to another thread: this compiles only if that is proved. It does
+/// nothing.
 pub fn site_crosses(handle: &TxcSite) {
     crosses(handle);
 }

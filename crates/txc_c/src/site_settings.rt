@@ -1,4 +1,4 @@
-//! How a site is made, as it crosses.
+//! Settings of a site, as a struct of numbers.
 ghost use Rattle.std.specs.Prelude.{◌≡◌};
 ghost use Rattle.txc_c.specs.Settings.{are_settings, budget_in, budget_of, capacity_of, stored_events_of, site_node_of, or_default, recent_of, renew_after_of, room_for_events, room_of, row_store_named, row_store_of, said, store_of};
 
@@ -7,7 +7,7 @@ use txc_node::{MAX_CAPACITY, MAX_RECENT, MOST_CAPACITY};
 use txc_shared::NodeSettings;
 use txc_stream::MAX_CAPACITY as MAX_EVENTS;
 
-// Where the fields end, of which the first is the size.
+// The ends of the fields in bytes. The first field is the size.
 pub(crate) const SIZE_END: usize = 8;
 
 pub(crate) const EVENTS_END: usize = 16;
@@ -28,7 +28,7 @@ pub const STORE_SQL: usize = 0;
 /// The number of the store that is ordered maps: the greatest one.
 pub const STORE_PLAIN: usize = 1;
 
-/// How a site is made. What lies beyond its size is 0, and a field that is 0 has its default.
+/// Settings of a site. A field beyond `size` counts as 0, and a field that is 0 has its default.
 #[repr(C)]
 #[derive(Clone, Copy)]
 pub struct TxcSiteSettings {
@@ -41,28 +41,28 @@ pub struct TxcSiteSettings {
     pub store: usize,
 }
 
-// The value, or its default.
+// Returns the value, or its default if it is 0.
 fn or_default(default: usize, value: usize) -> usize
     ensures { result ≡ or_default default value }
 {
     if value == 0 { default } else { value }
 }
 
-// For how many events there is to be room, if they are stored.
+// Returns the number of events that there is room for, if they are stored.
 fn room_in(events: usize) -> Option<usize>
     ensures { result ≡ room_for_events events }
 {
     if events == 0 { None } else { Some(events) }
 }
 
-// How many bytes the values of a node may have in all, if it has a budget.
+// Returns the most bytes of a node's values in all, if it has a budget.
 fn budget_in(bytes: usize) -> Option<usize>
     ensures { result ≡ budget_in bytes }
 {
     if bytes == 0 { None } else { Some(bytes) }
 }
 
-// The store of that number.
+// Returns the store of that number.
 fn row_store_named(store: usize) -> RowStore
     ensures { result ≡ row_store_named store }
 {
@@ -74,7 +74,7 @@ fn row_store_named(store: usize) -> RowStore
 }
 
 impl TxcSiteSettings {
-    // What a field says that ends there.
+    // Returns the field that ends there, or 0 if it is beyond the size.
     fn said(&self, end: usize, value: usize) -> usize
         ensures { result ≡ said self.now.size end value }
     {
@@ -105,7 +105,7 @@ impl TxcSiteSettings {
         self.said(STORE_END, self.store)
     }
 
-    /// Returns for how many events there is to be room, if they are stored.
+    /// Returns the number of events that there is room for, or `None` if they are not stored.
     pub(crate) fn room(&self) -> Option<usize>
         ensures { result ≡ room_of self.now }
     {
@@ -123,7 +123,7 @@ impl TxcSiteSettings {
         }
     }
 
-    /// Returns how many bytes the values of the node may have in all, if it has a budget.
+    /// Returns the most bytes of the node's values in all, if it has a budget.
     pub(crate) fn budget(&self) -> Option<usize>
         ensures { result ≡ budget_of self.now }
     {
@@ -137,7 +137,7 @@ impl TxcSiteSettings {
         row_store_named(self.store())
     }
 
-    /// Returns after how many milliseconds a pin is renewed.
+    /// Returns the age of a pin, in milliseconds, beyond which it is renewed.
     pub(crate) fn renew_after(&self) -> u64
         ensures { result ≡ renew_after_of self.now }
     {
@@ -148,7 +148,7 @@ impl TxcSiteSettings {
         }
     }
 
-    /// Returns whether a site may be made so.
+    /// Returns `true` if each setting is within its limits.
     pub(crate) fn are_settings(&self) -> bool
         ensures { result ≡ are_settings self.now }
     {

@@ -1,4 +1,4 @@
-//! What is told of a step and of what was answered last, and written for the caller.
+//! Writing the results of steps, and the last result again, for the caller.
 ghost use Rattle.std.specs.Prelude.{◌≡◌, length};
 ghost use Rattle.txc_caller.specs.Telling.{told_answer};
 ghost use Rattle.txc_c.specs.Opened.{calling_of};
@@ -11,7 +11,7 @@ use txc_crossing::{ANSWERED, COMPUTE, DONE, MISS, NOT_OPEN, REFUSED, tell};
 use txc_rows::Row;
 use txc_rw::Given;
 
-// Writes the value of a call, by this number if there is room for it, or of rows how many they are.
+// Writes the value of a call, with this number if there is room for it, or how many rows there are.
 fn tell_answer(number: u32, answer: &Answer, value: &mut [u8], len: &mut usize) -> u32
     ensures number { result ≡ answer_number number (length value.old) answer.now }
     ensures len { len.new ≡ answer_len answer.now }
@@ -26,7 +26,7 @@ fn tell_answer(number: u32, answer: &Answer, value: &mut [u8], len: &mut usize) 
     }
 }
 
-// The number of a refusal.
+// Returns the number of an error.
 fn error_number(error: CallerError) -> u32
     ensures { result ≡ error_number error }
 {
@@ -36,7 +36,7 @@ fn error_number(error: CallerError) -> u32
     }
 }
 
-/// Writes what a step has come to in the transaction.
+/// Writes the result of a step in the transaction.
 pub(crate) fn tell_step(
     txn: &Open,
     step: Result<Step, CallerError>,
@@ -58,7 +58,7 @@ pub(crate) fn tell_step(
     }
 }
 
-// Writes what was answered last outside all functions.
+// Writes the last result outside of all functions.
 fn tell_outside(txn: &Open, value: &mut [u8], len: &mut usize) -> u32
     ensures { LastTold (last_outside txn.now) result (buffer value.old len.old) (buffer value.new len.new) }
 {
@@ -78,7 +78,8 @@ fn tell_outside(txn: &Open, value: &mut [u8], len: &mut usize) -> u32
     }
 }
 
-/// Writes what was answered last: to the function that is computed, or else outside all functions.
+/// Writes the last result: the answer of the function being computed, or otherwise the last one outside of all
+/// functions.
 pub(crate) fn tell_last(txn: &Open, value: &mut [u8], len: &mut usize) -> u32
     ensures { LastTold (last_answer_of txn.now) result (buffer value.old len.old) (buffer value.new len.new) }
 {
@@ -91,7 +92,7 @@ pub(crate) fn tell_last(txn: &Open, value: &mut [u8], len: &mut usize) -> u32
     }
 }
 
-// The rows that a transaction found itself, if that is what it was answered last outside all functions.
+// Returns the rows that a transaction read itself, if they are its last result outside of all functions.
 fn rows_outside(txn: &Open) -> &[Row]
     ensures { result.now ≡ rows_of_last (last_outside txn.now) }
 {
@@ -104,7 +105,7 @@ fn rows_outside(txn: &Open) -> &[Row]
     }
 }
 
-/// Returns the rows that were found last, while nothing else was answered since.
+/// Returns the rows that were read last, if they are the last result.
 pub(crate) fn rows_found(txn: &Open) -> &[Row]
     ensures { result.now ≡ rows_found txn.now }
 {

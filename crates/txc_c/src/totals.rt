@@ -1,8 +1,9 @@
-//! What a node holds in all, for callers in C.
+//! Number and size of a node's entries, for callers in C.
 ghost use Rattle.std.specs.Prelude.{◌≡◌};
 ghost use Rattle.txc_c.specs.Totals.{crossing_totals};
 
-/// How many entries a node holds, how many bytes their values have in all, and how many entries trims have dropped.
+/// The number of a node's entries, the number of bytes of their values in all, and the number of entries that
+/// trims have dropped.
 #[repr(C)]
 #[derive(Clone, Copy)]
 pub struct TxcTotals {
@@ -12,7 +13,7 @@ pub struct TxcTotals {
 }
 
 impl TxcTotals {
-    /// The struct of these totals. If more entries were dropped than a `u64` counts, it tells the greatest one.
+    /// Returns the struct of these totals. If `trimmed` exceeds a `u64`, it has the greatest one.
     pub(crate) fn of(entries: usize, bytes: usize, trimmed: u128) -> TxcTotals
         ensures { result ≡ crossing_totals entries bytes trimmed }
     {

@@ -14,7 +14,7 @@ ghost use Rattle.txc_c.specs.Telling.{buffer};
 ghost use Rattle.txc_c.specs.Trimming.{TotalsTold, TrimComesTo};
 ghost use Rattle.txc_c.specs.Turning.{AbortComesTo, BeginComesTo, BeginWriteAtComesTo, BeginWriteComesTo, CommitComesTo, CommitWriteComesTo};
 
-use crate::keeping::TxcKept;
+use crate::kept::TxcKept;
 use crate::receipts::{TxcQuery, TxcReceipt, TxcRow};
 use crate::site::Site;
 use crate::site_handle::TxcSite;
@@ -23,10 +23,10 @@ use crate::totals::TxcTotals;
 use std::alloc::Global;
 use txc_crossing::{ALREADY_OPEN, BAD_ARGUMENT, CLOSED, DONE, NO_MEMORY, TxcKey};
 
-/// The number of the header that this library has: it rises with each change of an export or a struct.
+/// The version of the header that this library implements. It rises with each change of an export or a struct.
 pub const ABI: u32 = 4;
 
-/// Returns the number of the header that this library has.
+/// Returns the version of the header that this library implements.
 #[unsafe(no_mangle)]
 pub extern "C" fn txc_abi() -> u32
     ensures { result ≡ ABI }
@@ -34,7 +34,7 @@ pub extern "C" fn txc_abi() -> u32
     ABI
 }
 
-/// Makes a site.
+/// Makes a site by the settings. If this does not return `DONE`, the handle is unchanged.
 #[unsafe(no_mangle)]
 pub extern "C" fn txc_site_open(
     alloc: Global,
@@ -62,7 +62,7 @@ pub extern "C" fn txc_site_open(
     DONE
 }
 
-/// Gives all of it up.
+/// Closes the site, and frees all that it has.
 #[unsafe(no_mangle)]
 pub extern "C" fn txc_site_close(alloc: Global, handle: &mut TxcSite) -> u32
     ensures number { result ≡ close_number (site_held handle.old) }
@@ -74,7 +74,7 @@ pub extern "C" fn txc_site_close(alloc: Global, handle: &mut TxcSite) -> u32
     }
 }
 
-/// Begins a transaction that only reads, and writes its number.
+/// Begins a read-only transaction, and writes its number.
 #[unsafe(no_mangle)]
 pub extern "C" fn txc_begin(
     alloc: Global,
@@ -95,7 +95,8 @@ pub extern "C" fn txc_begin(
     number
 }
 
-/// Asks for the value of a call.
+/// Requests the value of a call: an outermost one, or for the function being computed. Writes its value, if it
+/// has one.
 #[unsafe(no_mangle)]
 pub extern "C" fn txc_call(
     alloc: Global,
@@ -117,7 +118,7 @@ pub extern "C" fn txc_call(
     number
 }
 
-/// Asks for the rows of a query, and writes how many they are.
+/// Requests the rows of a query, and writes how many they are.
 #[unsafe(no_mangle)]
 pub extern "C" fn txc_query_rows(
     alloc: Global,
@@ -138,7 +139,7 @@ pub extern "C" fn txc_query_rows(
     number
 }
 
-/// Writes one of the rows that were found last.
+/// Writes one of the rows that were read last.
 #[unsafe(no_mangle)]
 pub extern "C" fn txc_row_at(
     alloc: Global,
@@ -160,7 +161,7 @@ pub extern "C" fn txc_row_at(
     number
 }
 
-/// Writes what was answered last once more.
+/// Writes the last result again.
 #[unsafe(no_mangle)]
 pub extern "C" fn txc_answer(
     alloc: Global,
@@ -180,7 +181,7 @@ pub extern "C" fn txc_answer(
     number
 }
 
-/// The function that is computed gives these bytes.
+/// Ends the function being computed with these bytes as its value.
 #[unsafe(no_mangle)]
 pub extern "C" fn txc_finish(
     alloc: Global,
@@ -202,7 +203,7 @@ pub extern "C" fn txc_finish(
     number
 }
 
-/// Gives the whole open call up.
+/// Cancels the whole open call.
 #[unsafe(no_mangle)]
 pub extern "C" fn txc_give_up(alloc: Global, handle: &mut TxcSite, txn: u64) -> u32
     ensures { ComesTo (GiveUpComesTo txn) (Unit {0})
@@ -235,7 +236,7 @@ pub extern "C" fn txc_read_stamp(
     number
 }
 
-/// Writes one of the pins at which all is right that was answered.
+/// Writes one of the pins at which every result is correct.
 #[unsafe(no_mangle)]
 pub extern "C" fn txc_member_at(
     alloc: Global,
@@ -256,7 +257,7 @@ pub extern "C" fn txc_member_at(
     number
 }
 
-/// Ends the transaction that only reads, and writes its receipt.
+/// Ends the read-only transaction, and writes its receipt.
 #[unsafe(no_mangle)]
 pub extern "C" fn txc_commit(
     alloc: Global,
@@ -275,7 +276,7 @@ pub extern "C" fn txc_commit(
     number
 }
 
-/// Gives the transaction up.
+/// Aborts the transaction.
 #[unsafe(no_mangle)]
 pub extern "C" fn txc_abort(alloc: Global, handle: &mut TxcSite, txn: u64) -> u32
     ensures { ComesTo (AbortComesTo txn) (Unit {0})
@@ -289,7 +290,7 @@ pub extern "C" fn txc_abort(alloc: Global, handle: &mut TxcSite, txn: u64) -> u3
     number
 }
 
-/// Begins a transaction that writes over the newest state, and writes its number.
+/// Begins a read-write transaction at the newest state, and writes its number.
 #[unsafe(no_mangle)]
 pub extern "C" fn txc_begin_write(alloc: Global, handle: &mut TxcSite, txn: &mut u64) -> u32
     ensures { ComesTo (BeginWriteComesTo txn.old txn.new) (txn.new ≡ txn.old)
@@ -303,7 +304,7 @@ pub extern "C" fn txc_begin_write(alloc: Global, handle: &mut TxcSite, txn: &mut
     number
 }
 
-/// Begins a transaction that writes over the state of that stamp, and writes its number.
+/// Begins a read-write transaction at the state of that stamp, and writes its number.
 #[unsafe(no_mangle)]
 pub extern "C" fn txc_begin_write_at(
     alloc: Global,
@@ -322,7 +323,7 @@ pub extern "C" fn txc_begin_write_at(
     number
 }
 
-/// A row is to stand once the transaction is committed.
+/// Buffers a put of a row.
 #[unsafe(no_mangle)]
 pub extern "C" fn txc_put(
     alloc: Global,
@@ -344,7 +345,7 @@ pub extern "C" fn txc_put(
     number
 }
 
-/// No row is to stand there.
+/// Buffers the removal of a row.
 #[unsafe(no_mangle)]
 pub extern "C" fn txc_remove(
     alloc: Global,
@@ -383,7 +384,7 @@ pub extern "C" fn txc_commit_write(
     number
 }
 
-/// Pins the newest state with that moment, and writes its stamp.
+/// Pins the newest state at that wall-clock time, in milliseconds, and writes its stamp.
 #[unsafe(no_mangle)]
 pub extern "C" fn txc_pin(alloc: Global, handle: &mut TxcSite, moment: u64, stamp: &mut u32) -> u32
     ensures { ComesTo (PinComesTo moment stamp.old stamp.new) (stamp.new ≡ stamp.old)
@@ -397,7 +398,8 @@ pub extern "C" fn txc_pin(alloc: Global, handle: &mut TxcSite, moment: u64, stam
     number
 }
 
-/// Tidies: pins go that are more than `age` milliseconds before `now`, and what nobody can read any more.
+/// Runs the maintenance: retires unused pins older than `age` milliseconds before `now`, and drops the versions
+/// and entries that no transaction can read.
 #[unsafe(no_mangle)]
 pub extern "C" fn txc_keep(
     alloc: Global,
@@ -449,8 +451,8 @@ pub extern "C" fn txc_oldest_open(alloc: Global, handle: &mut TxcSite, txn: &mut
     number
 }
 
-/// Keeps the longest prefix of the node's entries, the most recently used first, whose values have at most `most` bytes
-/// in all, whatever is open. Writes how many entries it dropped.
+/// Trims the node to the longest prefix of its entries, the most recently used first, whose values have at most
+/// `most` bytes in all. Transactions may be open. Writes the number of entries dropped.
 #[unsafe(no_mangle)]
 pub extern "C" fn txc_site_trim(
     alloc: Global,
@@ -469,7 +471,8 @@ pub extern "C" fn txc_site_trim(
     number
 }
 
-/// Writes how many entries the node holds, how many bytes their values have in all, and how many entries trims have dropped.
+/// Writes the number of the node's entries, the bytes of their values in all, and the number of entries that
+/// trims have dropped.
 #[unsafe(no_mangle)]
 pub extern "C" fn txc_site_totals(
     alloc: Global,

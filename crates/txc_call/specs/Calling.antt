@@ -32,11 +32,11 @@ IsAtRest objects c = (c.frames ≡ []) × AllIdle objects
 abbrev pub IsCalling : Next → Objects → Calling → Type 0
 IsCalling next objects c = NeedFits next objects c.top c.need c.frames
 
--- all answers so far are right in the history
+-- all answers so far are correct in the history
 abbrev pub CallHolds : Next → History → Objects → Calling → Type 0
 CallHolds next L objects c = NeedHolds next L objects c.need c.frames
 
--- the stamp lies in all reaches of the call
+-- the stamp is in all reaches of the call
 abbrev pub InCall : ℕ → Calling → Type 0
 InCall t c = InNeed t c.need c.frames
 
@@ -44,7 +44,7 @@ InCall t c = InNeed t c.need c.frames
 abbrev pub CallIsUnreached : Calling → Type 0
 CallIsUnreached c = IsUnreached c.need c.frames
 
--- how a call stands after a step, or why it was refused
+-- the call's state after a step, or its error
 abbrev pub turn_after : {T : Type 0} → Result T CallError → Calling → Objects → Turn
 turn_after (Ok done) c objects =
     Ok (record { frames = c.frames; asked = c.asked; need = c.need; objects = objects })

@@ -1,4 +1,4 @@
--- The open frames of a call, innermost first, beside the objects that run them.
+-- The open frames of a call, innermost first, with the objects that run them.
 use Rattle.std.specs.Prelude.{◌≡◌, ℕ, ◌+◌, ◌<◌, List, [], ◌∷◌, length, Option, Some, None}
 use Rattle.std.specs.List.{AllByRecursion}
 use Rattle.txc_stamp.specs.Interval.{Interval}
@@ -51,7 +51,7 @@ abbrev pub released : List Frame → Objects → Objects
 released [] objects = objects
 released (frame ∷ frames) objects = released frames (with_activity objects frame.key.function idle)
 
--- the frames are those of a call, and beside their objects all are idle
+-- the frames are those of a call, and all other objects are idle
 pub record IsOpen (next : Next) (objects : Objects) (top : Call) (ask : Ask) (frames : List Frame) :
     Type 0 where
   pub stack : IsStack next objects top ask frames
@@ -81,7 +81,7 @@ FramesHold next L objects (frame ∷ frames) =
     AnswersHold next L frame.key (answers_in objects frame.key.function) frame.reach frame.tags
     × FramesHold next L objects frames
 
--- the stamp lies in the reach of each frame
+-- the stamp is in the reach of each frame
 abbrev pub InAll : ℕ → List Frame → Type 0
 InAll t [] = Unit {0}
 InAll t (frame ∷ frames) = InReach t frame.reach × InAll t frames

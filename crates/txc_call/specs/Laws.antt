@@ -1,4 +1,4 @@
--- What a call gives at its end, over all the replies that lead it there.
+-- The value of a call at its end, over all the replies that lead it there.
 use Rattle.std.specs.Prelude.{◌≡◌, ℕ, List, [], ◌∷◌, Some, IsSome, Ok}
 use Rattle.txc_tags.specs.Keys.{Call}
 use Rattle.txc_db.specs.History.{History}
@@ -33,15 +33,15 @@ IsLed next L s (reply ∷ replies) end =
 abbrev pub at_start : Call → Objects → Standing
 at_start k objects = record { frames = []; asked = 0; need = Some (needs.Lookup k); objects = objects }
 
--- the call was started where all objects were idle, and right replies led it here
+-- the call was started when all objects were idle, and correct replies led it here
 pub record IsLedFrom (next : Next) (L : History) (k : Call) (objects : Objects) (replies : List Reply) (s : Standing) :
     Type 0 where
   pub all_idle : AllIdle objects
   pub there : IsSome (activity_of objects k.function)
   pub led : IsLed next L (at_start k objects) replies s
 
--- The value of the call at its end holds: it is what the call gives without a cache at each stamp of its
--- reach, or everywhere, where it has none. And all objects are idle again.
+-- The value of the call at its end holds: it is the call's uncached value at each stamp of its reach, or
+-- everywhere, if it has no reach. And all objects are idle again.
 pub record IsRightEnd (next : Next) (L : History) (k : Call) (s : Standing) (o : Outcome) : Type 0 where
   pub of_call : o.key ≡ k
   pub holds : ValueHolds next L k o.value o.reach o.tags
@@ -53,7 +53,7 @@ CallsComeToTheirValues = (next : Next) (L : History) (k : Call) (objects : Objec
     (s : Standing) (o : Outcome) → IsLedFrom next L k objects replies s → s.need ≡ Some (needs.Value o)
     → IsRightEnd next L k s o
 
--- what such a call asks to insert is true
+-- the entries that such a call inserts are true
 abbrev pub InsertionsAreTrue : Type 0
 InsertionsAreTrue = (next : Next) (L : History) (k : Call) (objects : Objects) (replies : List Reply)
     (s : Standing) (e : Entry) → IsLedFrom next L k objects replies s → s.need ≡ Some (needs.Insert e)

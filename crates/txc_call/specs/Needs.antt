@@ -1,4 +1,4 @@
--- What a call needs, and what that is answered.
+-- The need of a call, and the reply to it.
 use Rattle.std.specs.Prelude.{◌≡◌, ◌≢◌, ℕ, List, [], ◌∷◌, Option, Some, None, IsSome}
 use Rattle.txc_stamp.specs.Interval.{Interval}
 use Rattle.txc_tags.specs.Keys.{Call}
@@ -27,7 +27,7 @@ pub record IsWaiting (next : Next) (objects : Objects) (top : Call) (ask : Ask) 
   pub open_frames : IsOpen next objects top ask frames
   pub few : AreFew next.limits.asks frames
 
--- the frames wait for what is needed; where nothing is, no call is open
+-- the frames wait for the need; if there is none, no call is open
 abbrev pub NeedFits : Next → Objects → Call → Option Need → List Frame → Type 0
 NeedFits next objects top None frames = (frames ≡ []) × AllIdle objects
 NeedFits next objects top (Some (needs.Lookup k)) frames =
@@ -53,7 +53,7 @@ HeldAnswerHolds next L objects (frame ∷ frames) x = HoldsOver L
     (λ s. queries_of next s (next.says frame.key.function frame.key.args (answers_in objects frame.key.function)))
     x.reach x.tags
 
--- all answers so far are right, and so is a held value or answer
+-- all answers so far are correct, and so is a held value or answer
 abbrev pub NeedHolds : Next → History → Objects → Option Need → List Frame → Type 0
 NeedHolds next L objects None frames = FramesHold next L objects frames
 NeedHolds next L objects (Some (needs.Lookup k)) frames = FramesHold next L objects frames
@@ -76,7 +76,7 @@ reach_of (Some (needs.Value o)) = o.reach
 reach_of (Some (needs.Begin k)) = None
 reach_of (Some (needs.Resume x)) = x.reach
 
--- the stamp lies in the reach of each frame and of a held value or answer
+-- the stamp is in the reach of each frame and of a held value or answer
 abbrev pub InNeed : ℕ → Option Need → List Frame → Type 0
 InNeed t need frames = InReach t (reach_of need) × InAll t frames
 

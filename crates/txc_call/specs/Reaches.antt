@@ -1,4 +1,4 @@
--- Where what a frame was given holds together.
+-- The stamps at which the answers of a frame hold together.
 use Rattle.std.specs.Prelude.{ℕ, Option, Some, None}
 use Rattle.txc_stamp.specs.Interval.{Interval, Holds, meet_of}
 
@@ -7,7 +7,7 @@ abbrev pub InReach : ℕ → Option Interval → Type 0
 InReach t None = Unit {0}
 InReach t (Some reach) = Holds reach t
 
--- where both hold, if some stamp is held by both; no reach is everywhere
+-- the stamps at which both hold, if they share one; no reach is everywhere
 abbrev pub meet : Option Interval → Option Interval → Option Interval
 meet None other = other
 meet (Some a) None = Some a
@@ -19,7 +19,7 @@ pub record HaveCommon (a b : Interval) : Type 0 where
   pub one : Holds a at_stamp
   pub other : Holds b at_stamp
 
--- some stamp lies in both
+-- they share a stamp
 abbrev pub ReachesMeet : Option Interval → Option Interval → Type 0
 ReachesMeet None other = Unit {0}
 ReachesMeet (Some a) None = Unit {0}

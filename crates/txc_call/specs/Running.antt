@@ -1,5 +1,5 @@
--- A call that is run in single steps: a reply is taken, or the function that the call needs asks something. A registry
--- runs the needed functions at once; a caller that has none runs each itself.
+-- A call that is run in single steps: a reply is taken, or the function that the call needs asks something. A
+-- registry runs the needed functions at once; a caller that has none runs each itself.
 use Rattle.std.specs.Prelude.{◌≡◌, ℕ, ◌+◌, nat_le, Bool, true, false, if◌then◌else◌, List, [], ◌∷◌, Option, Some, None, IsSome}
 use Rattle.txc_tags.specs.Keys.{Call}
 use Rattle.txc_db.specs.History.{History}
@@ -23,7 +23,8 @@ use Rattle.txc_call.specs.Turns.{Onward, Turn, UnlessMemory, UnlessRefused, Afte
 
 -- ---- replies
 
--- the need for which a value is held: the next answer of the innermost frame, or, without a frame, the call's value
+-- the need for which a value is held: the next answer of the innermost frame, or, without a frame, the call's
+-- value
 abbrev pub value_need : List Frame → Outcome → Need
 value_need [] o = needs.Value o
 value_need (frame ∷ frames) o = needs.Resume (value_held o)
@@ -64,7 +65,8 @@ with_ask objects f ask = if is_done ask then with_activity objects f idle else o
 abbrev pub order_refusal : ℕ → Call → Option CallError
 order_refusal f k = if nat_le f k.function then Some (errors.CallOrder f k.function) else None
 
--- the error of an ask of the function f by what it says alone, whichever functions exist, where a value has at most so many bytes
+-- the error of a step of the function f by the step alone, whichever functions exist, if a value may have at
+-- most `most` bytes
 abbrev pub form_refusal : ℕ → ℕ → Ask → Option CallError
 form_refusal most f (asks.Query q) = None
 form_refusal most f (asks.Call k) = order_refusal f k
@@ -116,7 +118,8 @@ NeedsFunction (Some (needs.Value o)) = ⊥
 NeedsFunction (Some (needs.Begin k)) = Unit {0}
 NeedsFunction (Some (needs.Resume x)) = Unit {0}
 
--- the effect of the needed function's ask: the call ends because an allocation failed, or goes on as after any ask
+-- the effect of the needed function's step: the call ends because an allocation failed, or continues as after
+-- any step
 abbrev pub AfterRan : Limits → List Frame → ℕ → Objects → Need → Ask → Turn → Type 0
 AfterRan limits frames asked objects (needs.Begin k) ask turn =
     UnlessMemory turn (AfterOneAsk limits frames asked (begun_frame k) ask (with_begun objects k) turn)
@@ -137,8 +140,8 @@ AfterNeed next (frame ∷ outer) asked objects (needs.Resume x) turn =
     AnswerTransition next outer asked frame x objects
     (outwards next outer asked (given frame x.reach x.tags) turn) turn
 
--- what a step of a call keeps, after which the objects are these: the frames wait for the new need; all answers are still
--- right in each history in which they were; and no stamp leaves the call's reaches
+-- The invariant that a step of a call keeps, with the objects after it. The frames wait for the new need; all
+-- answers are still correct in each history in which they were; and no stamp leaves the call's reaches.
 pub record StepKeeps (next : Next) (objects : Objects) (old : Calling) (after : Objects) (new : Calling) : Type 0 where
   pub fits : IsCalling next after new
   pub holds : (L : History) → CallHolds next L objects old → CallHolds next L after new

@@ -1,37 +1,40 @@
 ghost use Rattle.std.specs.Fmt.{WritesOnOk};
 ghost use Rattle.txc_call.specs.Codes.{call_code};
 
+use crate::frames::MAX_CALL_ASKS;
 use std::fmt;
 use thiserror::Error;
+use txc_app::MOST_ASKS;
+use txc_node::MOST_VALUE_LEN;
 
-/// Why a call ended without a value. Every object that ran for it is idle then.
+/// Errors of a call. Every object that ran for it is idle afterwards.
 #[derive(Clone, Copy, Debug, PartialEq, Eq, Error)]
 pub enum CallError {
     /// There is no function of this number.
     #[error("there is no function {0}")]
     NoFunction(u8),
     /// The first function called the second, which is not below it.
-    #[error("function {0} may not call function {1}")]
+    #[error("function {0} may only call functions with lower numbers, and called function {1}")]
     CallOrder(u8, u8),
-    /// An activation asked once more than it may.
-    #[error("an activation asked too often")]
+    /// An activation made one step more than it may.
+    #[error("a function made more queries and calls than its application allows, at most {MOST_ASKS} with its return")]
     AskLimit,
-    /// All activations of the call together asked once more than they may.
-    #[error("the call asked too often")]
+    /// The activations of the call together made one step more than they may.
+    #[error("the functions of a call made more than {MAX_CALL_ASKS} queries, calls and returns in all")]
     Budget,
-    /// No permit was left.
-    #[error("no permit is left")]
+    /// No permit is left.
+    #[error("no permit to run a function is left")]
     Busy,
-    /// An object was out of memory.
-    #[error("a function is out of memory")]
+    /// An object has no memory.
+    #[error("a function failed: out of memory")]
     ObjectMemory,
-    /// A value has more bytes than a node may keep.
-    #[error("the value is too long")]
+    /// A value has more bytes than a node may store.
+    #[error("a function's value is longer than its application allows, at most {MOST_VALUE_LEN} bytes")]
     ValueTooLong,
-    /// The function takes no such arguments.
-    #[error("function {0} takes no such arguments")]
+    /// The function does not take these arguments.
+    #[error("function {0} does not take these arguments")]
     BadArguments(u8),
-    /// A growth was refused.
+    /// Memory cannot be allocated.
     #[error("out of memory")]
     Memory,
 }

@@ -1,15 +1,15 @@
 use txc_stamp::Reach;
 use txc_tags::{Key, TagSet};
 
-/// An activation that has begun and is not done, and what it was given.
+/// An activation that has begun and is not done, with the answers that it got.
 #[derive(Debug, Drop)]
 pub struct Frame {
-    /// The call that it comes from.
+    /// The call that it computes.
     pub key: Key,
-    /// How many answers it was given.
+    /// The number of answers that it got.
     pub answers: usize,
-    /// Where all of them hold. None where it was given none, or none that depends on a row.
+    /// The stamps at which all of them hold. `None` if it got no answer, or none that depends on a row.
     pub reach: Option<Reach>,
-    /// What they depend on.
+    /// The tags that they depend on.
     pub tags: TagSet,
 }

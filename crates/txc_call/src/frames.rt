@@ -20,10 +20,10 @@ use txc_registry::{Cacheable, CallFault, Registry};
 use txc_stamp::Reach;
 use txc_tags::{Key, TagSet};
 
-/// The most asks of all activations of a call together. What a hit spares is not counted.
+/// The most steps of all activations of a call together. Steps that a hit saves are not counted.
 pub const MAX_CALL_ASKS: usize = 4096;
 
-/// The open frames of the call `top`, and how often all its activations asked.
+/// The open frames of the call `top`, and the number of steps of all its activations.
 #[derive(Drop)]
 pub(crate) struct Frames {
     pub(crate) top: Key,
@@ -43,7 +43,7 @@ fn error_of(function: u8, fault: CallFault) -> CallError
 }
 
 impl Frames {
-    /// Counts an ask of the innermost frame, which may make so many.
+    /// Counts a step of the innermost frame, which may make `most`.
     pub(crate) fn count(&mut self, most: usize) -> Result<(), CallError>
         requires { self.old.stack ≢ [] }
         ensures after { OnOk result (self.new.asked ≡ self.old.asked + 1) }
@@ -74,7 +74,8 @@ impl Frames {
         Some(&frame.key)
     }
 
-    /// Opens a frame for the function of a call, which was answered nothing yet.
+    /// Opens a frame for the function of a call, without answers. Fails, and changes nothing, only if memory
+    /// cannot be allocated.
     pub(crate) fn enter(&mut self, alloc: Global, key: Key) -> Result<(), CallError>
         ensures after { OnOk result (self.new.stack ≡ begun_frame key ∷ self.old.stack) }
         ensures refused { IfErr result (λ error. error ≡ CallError.Memory) }
@@ -128,7 +129,7 @@ impl Frames {
         Ok(ask)
     }
 
-    /// The innermost frame is given an answer, and its object goes on.
+    /// Gives the innermost frame an answer, and continues its object.
     #[tactic(auto, using(txc_registry::proofs::Offered::numbers_stay))]
     pub(crate) fn resume<A: App, C: Cacheable>(
         &mut self,
@@ -159,7 +160,7 @@ impl Frames {
             unreachable!()
         };
         let function = frame.key.function();
-        // The clauses of the limits bound how many answers a frame has.
+        // The clauses of the limits bound the number of a frame's answers.
         let _limits = A::limits();
         let Ok(()) = self.stack.give(reach, tags) else {
             return Err(CallError::Memory);

@@ -34,10 +34,10 @@ use txc_tags::Key;
 
 /// Runs calls, one after another. Its caller replies to each need of the call, until the call has its value.
 ///
-/// A need can be a function, which is to begin, or to continue after an answer. If each step is lent a registry
-/// ([`CallMachine::start`], [`CallMachine::reply`], [`CallMachine::cancel`]), that runs the functions at once. A
-/// caller that runs functions itself takes each reply by [`CallMachine::take`], and hands in the function's next ask
-/// by [`CallMachine::ran`].
+/// A need can be a function that must begin, or continue after an answer. If each step is lent a registry
+/// ([`CallMachine::start`], [`CallMachine::reply`], [`CallMachine::cancel`]), that runs the functions at once.
+/// A caller that runs functions itself takes each reply by [`CallMachine::take`], and passes the function's
+/// next ask to [`CallMachine::ran`].
 #[derive(Drop)]
 pub struct CallMachine {
     frames: Frames,
@@ -119,7 +119,7 @@ fn after_ask(
 }
 
 impl CallMachine {
-    /// A machine without a call.
+    /// Makes a machine without a call.
     pub fn new(alloc: Global) -> CallMachine
         ensures frames { result.frames ≡ [] }
         ensures need { result.need ≡ None }
@@ -138,15 +138,16 @@ impl CallMachine {
         }
     }
 
-    /// What holds of every machine: its call asked no more than it may. It does nothing when it runs.
+    /// In every machine the call has made no more steps than it may. This is a lemma: it does nothing when it
+    /// runs.
     pub fn is_within_budget(&self)
         ensures { self.now.asked ≤ MAX_CALL_ASKS }
     {
         let _frames = &self.frames;
     }
 
-    /// Starts a call, which needs a lookup first. It is refused where there is no such function. What the
-    /// last call gave is dropped, if it was not taken.
+    /// Starts a call, which needs a lookup first. Fails if there is no such function. If the value of the last
+    /// call was not taken, it is dropped.
     pub fn start<A: App, C: Cacheable>(
         &mut self,
         registry: &Registry<A, C>,
@@ -168,7 +169,7 @@ impl CallMachine {
         Ok(())
     }
 
-    /// Starts a call as [`CallMachine::start`] does, for a caller that runs functions itself and has each of them.
+    /// Starts a call as [`CallMachine::start`] does, for a caller that runs all functions itself.
     pub fn start_by_hand(&mut self, key: Key)
         requires { self.old.frames ≡ [] }
         ensures after { self.new ≡ started key }
@@ -180,14 +181,14 @@ impl CallMachine {
         self.need = Some(Need::Lookup(key));
     }
 
-    /// What the call needs; none where no call is open.
+    /// Returns what the call needs, or `None` if no call is open.
     pub fn need(&self) -> Option<&Need>
         ensures { MatchOption result (self.now.need ≡ None) (λ need. self.now.need ≡ Some need.now) }
     {
         self.need.as_ref()
     }
 
-    /// Returns the call whose function is to begin or to continue; none if the call needs no function.
+    /// Returns the call whose function must begin or continue, or `None` if the call needs no function.
     pub fn computing(&self) -> Option<&Key>
         ensures { MatchOption result (computing self.now.frames self.now.need ≡ None)
             (λ key. computing self.now.frames self.now.need ≡ Some key.now) }
@@ -199,9 +200,9 @@ impl CallMachine {
         }
     }
 
-    /// Goes on with the reply to what the call needs. What the reply hands in must hold together with what
-    /// the open frames were given, at one stamp at least. Where the call is refused, every frame is closed
-    /// and its object released, the innermost first.
+    /// Continues with the reply to the call's need. The reply must hold together with the answers of the open
+    /// frames at one stamp at least. If the call fails, every frame is closed and its object released, the
+    /// innermost first.
     pub fn reply<A: App, C: Cacheable>(
         &mut self,
         registry: &mut Registry<A, C>,
@@ -245,8 +246,8 @@ impl CallMachine {
         }
     }
 
-    /// Takes the reply to what the call needs, and runs no function. If one is to begin or to continue, the call
-    /// needs that next, and [`CallMachine::ran`] takes what it asks.
+    /// Takes the reply to the call's need, and runs no function. If a function must begin or continue, that is
+    /// the call's next need, and [`CallMachine::ran`] takes its ask.
     pub fn take(&mut self, reply: Reply)
         requires reply { (need : Need) × (self.old.need ≡ Some need) × ReplyFits need reply }
         ensures after { (need : Need) → self.old.need ≡ Some need
@@ -266,8 +267,8 @@ impl CallMachine {
         self.need = Some(need_after(&self.frames, need, reply));
     }
 
-    /// Takes the ask of the function that the call needs, before any other function continues. If the ask is not
-    /// allowed by the limits of the application, or an allocation fails, every frame is closed.
+    /// Takes the step of the function that the call needs, before any other function continues. If the limits
+    /// of the application do not allow the step, or an allocation fails, every frame is closed.
     pub fn ran(&mut self, limits: Limits, alloc: Global, ask: Ask) -> Result<(), CallError>
         requires value { limits.value ≤ MOST_VALUE_LEN }
         requires asks { limits.asks ≤ MOST_ASKS }
@@ -303,7 +304,7 @@ impl CallMachine {
         }
     }
 
-    /// Gives the call up: every frame is closed. For a call whose functions no registry runs.
+    /// Cancels the call: every frame is closed. For a call whose functions no registry runs.
     pub fn give_up(&mut self)
         ensures after { self.new ≡ record self.old { frames = []; need = None } }
     {
@@ -311,8 +312,8 @@ impl CallMachine {
         self.frames.clear();
     }
 
-    /// Takes what a call that is done gave. The machine is then without a call; where the call is not
-    /// done, nothing changes.
+    /// Takes the result of a call that is done. The machine is then without a call. Returns `None`, and changes
+    /// nothing, if the call is not done.
     pub fn finish(&mut self) -> Option<Outcome>
         ensures { MatchOption result
             (((outcome : Outcome) → self.old.need ≢ Some (Need.Value outcome)) × (self.new ≡ self.old))
@@ -328,7 +329,7 @@ impl CallMachine {
         }
     }
 
-    /// Gives the call up: every frame is closed and its object released, the innermost first.
+    /// Cancels the call: every frame is closed and its object released, the innermost first.
     pub fn cancel<A: App, C: Cacheable>(&mut self, registry: &mut Registry<A, C>)
         requires { IsCalling A.next registry.old self.old }
         ensures rest { IsAtRest registry.new self.new }

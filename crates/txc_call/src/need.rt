@@ -4,43 +4,43 @@ use txc_rows::Query;
 use txc_stamp::Reach;
 use txc_tags::{Key, TagSet};
 
-/// The value of a call, and what it depends on.
+/// The value of a call, with its validity interval and its tags.
 #[derive(Debug, Drop)]
 pub struct Outcome {
     /// The call.
     pub key: Key,
     /// Its value.
     pub value: Value,
-    /// Where it holds. None is everywhere.
+    /// The stamps at which it holds. `None` is everywhere.
     pub reach: Option<Reach>,
-    /// What it depends on.
+    /// The tags that it depends on.
     pub tags: TagSet,
 }
 
-/// An answer that the innermost function has not seen yet, and what it depends on.
+/// An answer that the innermost function has not got yet, with its validity interval and its tags.
 #[derive(Debug, Drop)]
 pub struct HeldAnswer {
     /// The answer.
     pub answer: Answer,
-    /// Where it holds. None is everywhere.
+    /// The stamps at which it holds. `None` is everywhere.
     pub reach: Option<Reach>,
-    /// What it depends on.
+    /// The tags that it depends on.
     pub tags: TagSet,
 }
 
-/// What a call needs before it goes on.
+/// The need of a call before it can continue.
 #[derive(Debug, Drop)]
 pub enum Need {
-    /// What a node has of the call.
+    /// A lookup of the call at a node.
     Lookup(Key),
-    /// What the database finds for the query.
+    /// The database's answer to the query.
     Query(Query),
-    /// That a node is given the entry.
+    /// An insertion of the entry at a node.
     Insert(Entry),
     /// Nothing: the call is done.
     Value(Outcome),
-    /// The first ask of the call's function, which is to begin.
+    /// The first step of the call's function.
     Begin(Key),
-    /// The next ask of the innermost function, which is to continue with this answer.
+    /// The next step of the innermost function, which is to continue with this answer.
     Resume(HeldAnswer),
 }

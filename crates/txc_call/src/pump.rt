@@ -27,7 +27,7 @@ fn release_done<A: App, C: Cacheable>(registry: &mut Registry<A, C>, function: u
     }
 }
 
-// Takes the ask of the innermost frame's object, and runs the objects until the call needs something else.
+// Takes the step of the innermost frame's object, and runs the objects until the call needs something else.
 #[tactic(auto, using(txc_registry::proofs::Offered::numbers_stay))]
 fn go_on<A: App, C: Cacheable>(
     frames: &mut Frames,

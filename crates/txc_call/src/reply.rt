@@ -1,15 +1,15 @@
 use txc_node::Shown;
 use txc_validity::Found;
 
-/// What a need is answered.
+/// Reply to a need.
 #[derive(Drop)]
 pub enum Reply {
     /// To a lookup: no node has the call.
     Miss,
-    /// To a lookup: what a node has of the call.
+    /// To a lookup: the entry that a node has of the call.
     Hit(Shown),
-    /// To a query: what the database found.
+    /// To a query: the database's answer.
     Found(Found),
-    /// To an insertion: it was made, or dropped.
+    /// To an insertion: it was made, or the entry was dropped.
     Inserted,
 }

@@ -1,4 +1,4 @@
-//! The next need after a reply or an ask.
+//! The next need after a reply or a step.
 ghost use Rattle.std.specs.Prelude.{◌≡◌, ◌≢◌, ◌≤◌, List, [], ◌∷◌, OnErr};
 ghost use Rattle.std.specs.Result.{result_err};
 ghost use Rattle.txc_node.specs.declared.value.TheConstants.{MOST_VALUE_LEN};
@@ -35,7 +35,7 @@ fn check_order(frames: &Frames, key: &Key) -> Result<(), CallError>
     Ok(())
 }
 
-/// Returns `true` for a function's last ask.
+/// Returns `true` if it is the function's last step.
 pub(crate) fn is_done(ask: &Ask) -> bool
     ensures { result ≡ is_done ask.now }
 {
@@ -46,7 +46,8 @@ pub(crate) fn is_done(ask: &Ask) -> bool
     }
 }
 
-// Returns the need for which a value is held: it is the next answer of the innermost frame, or, without a frame, the call's value.
+// Returns the need for which a value is kept: as the next answer of the innermost frame, or, without a frame,
+// as the call's value.
 fn value_need(frames: &Frames, outcome: Outcome) -> Need
     ensures { result ≡ value_need frames.now.stack outcome }
 {
@@ -108,8 +109,8 @@ pub(crate) fn need_after(frames: &Frames, need: Need, reply: Reply) -> Need
     }
 }
 
-/// Returns the need after the innermost frame asked this, before any other function continues. A frame that is done
-/// is closed; if it has a reach, its value is inserted first.
+/// Returns the need after the innermost frame made this step, before any other function continues. A frame that
+/// is done is closed; if it has a reach, its value is inserted first.
 pub(crate) fn settle(frames: &mut Frames, limits: Limits, ask: Ask) -> Result<Need, CallError>
     requires value { limits.value ≤ MOST_VALUE_LEN }
     requires some { frames.old.stack ≢ [] }

@@ -25,7 +25,7 @@ impl Model for Stack {
     ghost view = { λ s. reverse s.frames.items };
 }
 
-/// Where both hold, if some stamp is held by both. No reach is everywhere.
+/// Returns the stamps at which both hold, if they share one. `None` is everywhere.
 fn meet(one: Option<Reach>, other: Option<Reach>) -> Option<Reach>
     requires { ReachesMeet one other }
     ensures { result ≡ meet one other }
@@ -55,7 +55,7 @@ impl Stack {
         Ok(())
     }
 
-    /// Closes the innermost frame.
+    /// Closes the innermost frame, and returns it.
     pub(crate) fn pop(&mut self) -> Option<Frame>
         ensures { MatchOption result
             ((self.old ≡ []) × (self.new ≡ []))
@@ -71,7 +71,7 @@ impl Stack {
         self.frames.clear();
     }
 
-    /// The innermost frame.
+    /// Returns the innermost frame.
     pub(crate) fn top(&self) -> Option<&Frame>
         ensures { MatchOption result
             (self.now ≡ [])
@@ -80,7 +80,7 @@ impl Stack {
         self.frames.last()
     }
 
-    /// The innermost frame is given one answer more.
+    /// Gives the innermost frame one more answer.
     pub(crate) fn give(&mut self, reach: Option<Reach>, tags: &TagSet) -> Result<(), AllocError>
         requires { (frame : Frame) × (rest : List Frame)
             × (self.old ≡ frame ∷ rest) × (frame.answers < MOST_ASKS) × ReachesMeet frame.reach reach }

@@ -18,7 +18,7 @@ use Rattle.txc_node.proofs.Apart.{same_place_self}
 use Rattle.txc_node.proofs.Trims.{trim_keeps_the_first}
 use Rattle.txc_node.proofs.Weights.{bytes_more}
 use Rattle.txc_shared.specs.Nodes.{after_call, NodeValue}
-use Rattle.txc_shared.specs.Refusals.{IsLookupRefused, IsNodeLeft, IsStepRefused}
+use Rattle.txc_shared.specs.Refusals.{IsNodeLeft, IsStepRefused}
 use Rattle.txc_shared.specs.declared.error.NodeError.{NodeError}
 use Rattle.txc_shared.specs.declared.error.NodeError.TheVariants as errors
 use Rattle.txc_ports.specs.declared.kept.Kept.{Kept}

@@ -1,4 +1,4 @@
--- What an act of a transaction that reads leaves of the ports, and why it was refused.
+-- The ports after an act of a read-only transaction, and its errors.
 use Rattle.std.specs.Prelude.{◌≡◌, ◌⊎◌, ℕ, List, [], ◌∷◌, ◌++◌, IfSome, Option, Some, None, Result, Err}
 use Rattle.txc_tags.specs.Keys.{Call}
 use Rattle.txc_node.specs.declared.entry.Entry.{Entry}
@@ -35,13 +35,13 @@ use Rattle.txc_caller.specs.declared.step.CallerError.{CallerError}
 use Rattle.txc_caller.specs.declared.step.CallerError.TheVariants.{Txn}
 use Rattle.txc_caller.specs.declared.step.Step.{Step}
 
--- the error of a call that was refused by an act, if it was
+-- the error of a call that failed in an act, if it did
 abbrev pub step_error : Result Step CallerError → Option TxnError
 step_error (Err (Txn error)) = Some error
 step_error step = None
 
--- The step that an ask makes at the node: a call is looked up; what the innermost function gave is to be kept, under its call. Or
--- the node refuses the step, or the value is over its budget. A query makes none.
+-- The step that a function's step makes at the node: a call is looked up; the innermost function's value is
+-- inserted, under its call. Or the node fails, or the value is over its budget. A query makes none.
 abbrev pub IsNodeStepFor : Option ℕ → List Call → Ask → NodeValue → NodeValue → Type 0
 IsNodeStepFor budget computed (asks.Call k) old new =
     (lo : ℕ) × (hi : ℕ) × (hit : Option (Answered Shown)) × CallerLookupTransition k lo hi old new hit
@@ -56,8 +56,8 @@ pub record IsNodeAsked (computed : List Call) (ask : Ask) (old new : CallerPorts
 
 -- ---- the pin of the present
 
--- The present is to be pinned before anything else is asked: for a query if the transaction has no stamp to read at, for an
--- outermost call if it has no pin.
+-- The present must be pinned before any other request: for a query if the transaction has no stamp to read at,
+-- for an outermost call if it has no pin.
 abbrev pub PinsFirst : CoreValue → Ask → Type 0
 PinsFirst c (asks.Query query) = read_stamp c ≡ None
 PinsFirst c (asks.Call k) = (top_call c.call ≡ None) × (c.pins.members ≡ [])
@@ -73,22 +73,22 @@ pub record HasAddedPresent (c : CoreValue) (old : CallerPorts) (pinned : Pinned)
   pub gives : HasGivenPin c old given pinned
   pub added : new ≡ record given { cushion = after_add given.cushion pinned }
 
--- the pincushion refused a pin that the database had given: its hold is taken away
+-- the pincushion did not add a pin that the database had made: its hold is removed
 pub record HasDroppedPin (given : CallerPorts) (pinned : Pinned) (cause : AddError) (new : CallerPorts) : Type 0 where
   pub refused : IsAddRefused given.cushion pinned.stamp cause
   pub unheld : IsLetGo (Some pinned.stamp) given.database new.database
   pub same : new ≡ record given { database = new.database }
 
--- The present was not pinned, for this reason: the database gave no pin; or the pincushion refused the one that it gave.
+-- The present was not pinned, for this reason: the database made no pin; or the pincushion did not add it.
 abbrev pub HasNotPinnedPresent : CoreValue → CallerPorts → TxnError → CallerPorts → Type 0
 HasNotPinnedPresent c old error new =
     ((cause : DbError) × HasRefusedPin (least_present c.bounds c.pins.members) old new cause × (error ≡ refused_request cause))
     ⊎ ((given : CallerPorts) × (pinned : Pinned) × (cause : AddError) × HasGivenPin c old given pinned
     × HasDroppedPin given pinned cause new × (error ≡ refused_pin cause))
 
--- ---- refusals
+-- ---- errors
 
--- the machine of calls refused the ask, within these limits
+-- the machine of calls rejected the step, within these limits
 pub record IsAskNotRun (limits : Limits) (call : Calling) (objects : Objects) (ask : Ask) (error : TxnError) : Type 0 where
   pub need : Need
   pub needed : call.need ≡ Some need
@@ -96,29 +96,30 @@ pub record IsAskNotRun (limits : Limits) (call : Calling) (objects : Objects) (a
   pub after : AfterRan limits call.frames call.asked objects need ask (Err cause)
   pub is : error ≡ refused_call cause
 
--- Why an act was refused that asked for no pin of the present: memory was wanting; or the machine of calls refused the ask; or
--- the database refused the query, at the stamp at which the transaction reads. Or the query needs a pin of the present that would
--- be beyond the last stamp.
+-- Errors of an act that needed no pin of the present: memory was missing; or the machine of calls rejected the
+-- step; or the database failed at the query, at the stamp at which the transaction reads. Or the query needs a
+-- pin of the present that would be beyond the last stamp.
 abbrev pub IsRefusedUnpinned : Limits → CallerPorts → TxnValue → Ask → TxnError → Type 0
 IsRefusedUnpinned limits p t ask error = (error ≡ Memory) ⊎ (IsAskNotRun limits t.core.call t.objects ask error
     ⊎ (((stamp : ℕ) × (read_stamp t.core ≡ Some stamp) × IsAskedQueryRefused p.database stamp ask error)
     ⊎ (PinsFirst t.core ask × IsBeyond t.core × (error ≡ Database Full))))
 
--- .. and one that pinned it: memory was wanting, or the database refused the query at the pin
+-- .. and of one that made it: memory was missing, or the database failed at the query at the pin
 abbrev pub IsRefusedPinned : CallerPorts → Pinned → Ask → TxnError → Type 0
 IsRefusedPinned p pinned ask error = (error ≡ Memory) ⊎ IsAskedQueryRefused p.database pinned.stamp ask error
 
--- ---- what an act leaves
+-- ---- the effect of an act
 
--- No pin of the present was asked. The node alone may have been asked, and the transaction has no pin more to give back.
+-- No pin of the present was requested. Only the node may have been used, and the transaction has no more pins
+-- to return.
 pub record HasActedUnpinned (limits : Limits) (old : CallerPorts) (t : TxnValue) (ask : Ask) (new : CallerPorts) (taken : List ℕ)
     (failed : Option TxnError) : Type 0 where
   pub ports : IsNodeAsked (computed_calls t.core.call) ask old new
   pub taken_is : taken ≡ t.core.taken
   pub refused : IfSome failed (IsRefusedUnpinned limits old t ask)
 
--- The present was pinned where that was due, once, and the transaction has the pin to give back. Then the node alone may have been
--- asked.
+-- The present was pinned if that was due, once, and the transaction must return the pin. Then only the node may
+-- have been used.
 pub record HasActedPinned (old : CallerPorts) (t : TxnValue) (ask : Ask) (new : CallerPorts) (taken : List ℕ)
     (failed : Option TxnError) : Type 0 where
   pub due : PinsFirst t.core ask
@@ -129,7 +130,8 @@ pub record HasActedPinned (old : CallerPorts) (t : TxnValue) (ask : Ask) (new : 
   pub taken_is : taken ≡ t.core.taken ++ pinned.stamp ∷ []
   pub refused : IfSome failed (IsRefusedPinned between pinned ask)
 
--- The present was to be pinned, and was not: the act was refused for that, and the transaction has no pin more to give back.
+-- The present was to be pinned, and was not: the act failed for that reason, and the transaction has no more
+-- pins to return.
 pub record HasNotActed (old : CallerPorts) (t : TxnValue) (ask : Ask) (new : CallerPorts) (taken : List ℕ)
     (failed : Option TxnError) : Type 0 where
   pub due : PinsFirst t.core ask
@@ -138,7 +140,8 @@ pub record HasNotActed (old : CallerPorts) (t : TxnValue) (ask : Ask) (new : Cal
   pub ports : HasNotPinnedPresent t.core old error new
   pub taken_is : taken ≡ t.core.taken
 
--- What an act leaves of the ports, and of the pins that the transaction is to give back; and why its call was refused, if it was.
+-- The ports after an act, and the pins that the transaction must return; and the error of its call, if it
+-- failed.
 abbrev pub ActLeads : Limits → CallerPorts → TxnValue → Ask → CallerPorts → List ℕ → Option TxnError → Type 0
 ActLeads limits old t ask new taken failed = HasActedUnpinned limits old t ask new taken failed
     ⊎ (HasActedPinned old t ask new taken failed ⊎ HasNotActed old t ask new taken failed)

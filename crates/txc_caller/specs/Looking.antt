@@ -1,4 +1,4 @@
--- What the node had of a call, when an act asked it.
+-- The node's entry of a call, at the lookup of an act.
 use Rattle.std.specs.Prelude.{◌≡◌, ℕ, List, [], Option, Some, None, Result, Ok}
 use Rattle.txc_pinset.specs.Members.{AreBounds, kept}
 use Rattle.txc_cushion.specs.declared.pin.Pin.{Pin}
@@ -20,8 +20,8 @@ abbrev pub IsMiss : List Pin → Option (Answered Shown) → Type 0
 IsMiss members None = Unit {0}
 IsMiss members (Some hit) = kept hit.answer.reach members ≡ []
 
--- the node was asked for the call, at the stamps from the least to the greatest of these pins, and has this; it has nothing if it
--- refuses
+-- the node was asked for the call, at the stamps from the least to the greatest of these pins, and has this
+-- entry; it has none if it fails
 pub record HasLookedUp (members : List Pin) (key : Call) (old new : NodeValue) (hit : Option (Answered Shown)) : Type 0 where
   pub lo : ℕ
   pub hi : ℕ

@@ -7,11 +7,11 @@ use Rattle.txc_db.specs.Calls.{IsLeft, IsPinnable, IsPinRefused}
 use Rattle.txc_db.specs.DatabaseValue.{after_pin, after_unpin, newest}
 use Rattle.txc_db.specs.declared.error.DbError.{DbError}
 use Rattle.txc_caller.specs.Ports.{CallerPorts}
-use Rattle.txc_caller.specs.declared.pinning.PinError.{PinError}
-use Rattle.txc_caller.specs.declared.pinning.PinError.TheVariants.{Database, Pincushion}
+use Rattle.txc_caller.specs.declared.pin_error.PinError.{PinError}
+use Rattle.txc_caller.specs.declared.pin_error.PinError.TheVariants.{Database, Pincushion}
 
--- A pin of that moment is one event more, and the database holds its stamp, which is the newest. The pincushion has it, and no
--- transaction uses it. The node is as it was.
+-- A pin of that moment is one event more, and the database holds its stamp, which is the newest. The pincushion
+-- has it, and no transaction uses it. The node is as it was.
 pub record HasPinnedNewest (moment : ℕ) (old : CallerPorts) (stamp : ℕ) (new : CallerPorts) : Type 0 where
   pub could : IsPinnable old.database 0
   pub stamp_is : stamp ≡ newest new.database
@@ -22,20 +22,21 @@ pub record HasPinnedNewest (moment : ℕ) (old : CallerPorts) (stamp : ℕ) (new
   pub node : new.node ≡ old.node
   pub budget : new.budget ≡ old.budget
 
--- the database refused the pin
+-- the database did not make the pin
 pub record HasRefusedEvent (old : CallerPorts) (error : DbError) (new : CallerPorts) : Type 0 where
   pub refused : IsPinRefused old.database 0 error
   pub left_so : IsLeft old.database new.database error
   pub same : new ≡ record old { database = new.database }
 
--- The pincushion refused it. The event has happened, and its hold is taken away. The pincushion and the node are as they were.
+-- The pincushion did not add it. The event stays, and its hold is removed. The pincushion and the node are as
+-- before.
 pub record HasRefusedUnusedPin (moment : ℕ) (old : CallerPorts) (error : AddError) (new : CallerPorts) : Type 0 where
   pub could : IsPinnable old.database 0
   pub refused : IsAddRefused old.cushion (newest (after_pin old.database moment)) error
   pub unheld : new.database ≡ after_unpin (after_pin old.database moment) (newest (after_pin old.database moment))
   pub same : new ≡ record old { database = new.database }
 
--- why there is no pin, and what that leaves
+-- the error of pinning, and the ports after it
 abbrev pub HasNotPinned : ℕ → CallerPorts → PinError → CallerPorts → Type 0
 HasNotPinned moment old (Database error) new = HasRefusedEvent old error new
 HasNotPinned moment old (Pincushion error) new = HasRefusedUnusedPin moment old error new

@@ -50,15 +50,16 @@ pub record HasGrownDatabase (old new : DatabaseValue) : Type 0 where
   pub events : new.events ≡ old.events
   pub longer : IsPrefix old.history new.history
 
--- the database, the pincushion and the node; and how many bytes the node's values may have in all, if that has a budget
+-- the database, the pincushion and the node; and how many bytes the node's values may have in all, if that has
+-- a budget
 pub record CallerPorts : Type 0 where
   pub database : DatabaseValue
   pub cushion : CushionValue
   pub node : NodeValue
   pub budget : Option ℕ
 
--- all three are of one row of events; there is one pass through the node, which is whole, stores no records and is within its
--- budget
+-- all three are of one history; there is one pass at the node, which is not broken, stores no records and is
+-- within its budget
 pub record AreCallerPorts (p : CallerPorts) : Type 0 where
   pub cushion : p.cushion.events ≡ p.database.events
   pub node : p.node.seen.events ≡ p.database.events
@@ -67,7 +68,7 @@ pub record AreCallerPorts (p : CallerPorts) : Type 0 where
   pub whole : p.node.broken ≡ false
   pub within : IsInBudget p.budget (node_bytes p.node)
 
--- the database has room for so many events; or, where no number is given, it stores none
+-- the database has room for that many events; or, without a number, it stores none
 abbrev pub HasEventRoom : Option ℕ → Name → Type 0
 HasEventRoom (Some events) name = HasCapacity name events
 HasEventRoom None name = ¬ (HasRow name)
@@ -92,40 +93,40 @@ pub record HasPinnedForCaller (now at_least : ℕ) (old new : CallerPorts) (pinn
   pub front : pinned.front ≡ front_of new.database
   pub shown : moment_at pinned.front.history pinned.stamp ≡ Some pinned.moment
 
--- the database refused the pin
+-- the database did not make the pin
 pub record HasRefusedPin (at_least : ℕ) (old new : CallerPorts) (e : DbError) : Type 0 where
   pub is : new ≡ record old { database = new.database }
   pub left : IsLeft old.database new.database e
   pub refused : IsPinRefused old.database at_least e
 
--- of a pin: it was made, or the database refused
+-- of a pin: it was made, or the database failed
 abbrev pub CallerPinTransition : ℕ → ℕ → CallerPorts → CallerPorts → Result Pinned DbError → Type 0
 CallerPinTransition now at_least old new (Ok pinned) = HasPinnedForCaller now at_least old new pinned
 CallerPinTransition now at_least old new (Err e) = HasRefusedPin at_least old new e
 
--- the pin is in the pincushion; or it was refused, and nothing has changed
+-- the pin is in the pincushion; or it was not added, and nothing has changed
 abbrev pub CallerAddTransition : {A : Type 0} → Pinned → CallerPorts → CallerPorts → Result A AddError → Type 0
 CallerAddTransition pinned old new (Ok added) = new ≡ record old { cushion = after_add old.cushion pinned }
 CallerAddTransition pinned old new (Err e) = (new ≡ old) × IsAddRefused old.cushion pinned.stamp e
 
--- one user of each of the stamps is taken away; or one has none left, and nothing has changed
+-- one user of each of the stamps is removed; or one has none left, and nothing has changed
 abbrev pub AreGivenBack : List ℕ → CushionValue → CushionValue → Type 0
 AreGivenBack stamps old new =
     (new ≡ after_give_back old stamps) ⊎ ((new ≡ old) × ((stamp : ℕ) × IsFirstUnused old.entries stamps stamp))
 
--- there is one hold of the stamp fewer; or the database refused, and nothing has changed
+-- there is one hold of the stamp fewer; or the database failed, and nothing has changed
 abbrev pub CallerUnpinTransition : {A : Type 0} → ℕ → CallerPorts → CallerPorts → Result A DbError → Type 0
 CallerUnpinTransition stamp old new (Ok unpinned) = (new ≡ record old { database = after_unpin old.database stamp })
     × (is_held stamp old.database.holds ≡ true)
 CallerUnpinTransition stamp old new (Err e) = (new ≡ old) × IsUnpinRefused old.database stamp e
 
--- the hold of a pin that was not added is taken away, if there is one; or the database refused
+-- the hold of a pin that was not added is removed, if there is one; or the database failed
 abbrev pub IsLetGo : Option ℕ → DatabaseValue → DatabaseValue → Type 0
 IsLetGo None old new = new ≡ old
 IsLetGo (Some stamp) old new = (new ≡ after_unpin old stamp)
     ⊎ ((new ≡ old) × ((error : DbError) × IsUnpinRefused old stamp error))
 
--- a hold of each of the stamps is taken away, one after another
+-- a hold of each of the stamps is removed, one after another
 abbrev pub AreLetGo : List ℕ → DatabaseValue → DatabaseValue → Type 0
 AreLetGo [] old new = new ≡ old
 AreLetGo (stamp ∷ stamps) old new =
@@ -147,18 +148,18 @@ pub record IsAnswerOfWhole (query : RowQuery) (stamp : ℕ) (d : DatabaseValue) 
   pub front : found.front ≡ front_of d
   pub over : IsFoundOver found.front.history query stamp found.answer
 
--- of a query: it was answered, or the database refused
+-- of a query: it was answered, or the database failed
 abbrev pub CallerFindTransition : RowQuery → ℕ → DatabaseValue → Result (Answered Found) DbError → Type 0
 CallerFindTransition query stamp d (Ok found) = IsAnswerOfWhole query stamp d found
 CallerFindTransition query stamp d (Err e) = IsQueryRefused d query stamp e
 
 -- ---- the node
 
--- the node refused the lookup
+-- the node failed at the lookup
 abbrev pub HasRefusedLookup : NodeValue → ℕ → ℕ → NodeValue → Type 0
 HasRefusedLookup old lo hi new = (e : NodeError) × IsLookupRefused old lo hi e × IsNodeLeft old new e
 
--- a lookup at just these stamps finds this, and is a step of the node; or the node refuses, and has nothing
+-- a lookup at exactly these stamps finds this, and is a step of the node; or the node fails, and has nothing
 abbrev pub CallerLookupTransition : Call → ℕ → ℕ → NodeValue → NodeValue → Option (Answered Shown) → Type 0
 CallerLookupTransition key lo hi old new (Some hit) = (new ≡ after_call old 0 (Lookup key lo hi))
     × (lookup_answer old.cache key lo hi ≡ Some hit.answer) × (hit.front ≡ old.seen)
@@ -166,18 +167,18 @@ CallerLookupTransition key lo hi old new None =
     ((new ≡ after_call old 0 (Lookup key lo hi)) × (lookup_answer old.cache key lo hi ≡ None))
     ⊎ HasRefusedLookup old lo hi new
 
--- what a node keeps that made the insertion
+-- the result of a node's insertion
 abbrev pub kept_as : Insertion → Kept
 kept_as (insertions.Stored reach) = kepts.Stored reach
 kept_as insertions.Kept = kepts.Earlier
 
--- the node has seen what the front shows, and then made the step of the insertion, which answers what it keeps
+-- the node has seen the front's history, and then made the step of the insertion, with this result
 pub record HasTakenEntry (seen : FrontValue) (entry : Entry) (old new : NodeValue) (kept : Kept) : Type 0 where
   pub longer : IsLonger old.seen seen new.seen
   pub after : new ≡ after_call (seeing old new.seen) 0 (Insert entry)
   pub answer : kept ≡ kept_as (insertion_of (outcome old.cache entry))
 
--- the node refused the step
+-- the node failed at the step
 abbrev pub HasRefusedStep : NodeValue → NodeValue → Type 0
 HasRefusedStep old new = (e : NodeError) × IsStepRefused old e × IsNodeLeft old new e
 
@@ -188,36 +189,38 @@ pub record HasTakenWithin (budget : Option ℕ) (seen : FrontValue) (entry : Ent
   pub room : HasMadeRoomFor budget (length entry.value) old mid
   pub taken : HasTakenEntry seen entry mid new kept
 
--- the value alone is over the budget, and the node is as it was
+-- the value is over the budget by itself, and the node is as before
 pub record HasDeclined (budget : Option ℕ) (entry : Entry) (old new : NodeValue) : Type 0 where
   pub over : fits_alone budget (length entry.value) ≡ false
   pub same : new ≡ old
 
--- the node refused to make room, or refused the entry once it had
+-- the node failed to make room, or failed at the insertion after it had
 pub record HasRefusedWithin (budget : Option ℕ) (entry : Entry) (old new : NodeValue) : Type 0 where
   pub fits : fits_alone budget (length entry.value) ≡ true
   pub mid : NodeValue
   pub room : (mid ≡ old) ⊎ HasMadeRoomFor budget (length entry.value) old mid
   pub refused : HasRefusedStep mid new
 
--- the node takes the entry; or it keeps nothing of it: the value is over the budget, or the node refuses
+-- the node inserts the entry; or it stores nothing: the value is over the budget, or the node fails
 abbrev pub CallerInsertTransition : Option ℕ → FrontValue → Entry → NodeValue → NodeValue → Option Kept → Type 0
 CallerInsertTransition budget seen entry old new (Some kept) = HasTakenWithin budget seen entry old new kept
 CallerInsertTransition budget seen entry old new None = HasDeclined budget entry old new ⊎ HasRefusedWithin budget entry old new
 
--- the node drops the entries that end at the horizon or before it; or it refuses the step
+-- the node drops the entries whose span ends at the horizon or before it; or it fails at the step
 abbrev pub CallerSweepTransition : ℕ → NodeValue → NodeValue → Result ℕ NodeError → Type 0
 CallerSweepTransition horizon old new (Ok count) =
     (new ≡ after_call old 0 (Sweep horizon)) × (count ≡ swept_count old.cache horizon)
 CallerSweepTransition horizon old new (Err e) = IsStepRefused old e × IsNodeLeft old new e
 
--- the node keeps the longest prefix of its entries whose values have at most so many bytes in all; or it refuses the step
+-- the node keeps the longest prefix of its entries whose values have at most `most` bytes in all; or it fails
+-- at the step
 abbrev pub CallerTrimTransition : ℕ → NodeValue → NodeValue → Result ℕ NodeError → Type 0
 CallerTrimTransition most old new (Ok count) =
     (new ≡ after_call old 0 (Trim most)) × (count ≡ trimmed_count old.cache most)
 CallerTrimTransition most old new (Err e) = IsStepRefused old e × IsNodeLeft old new e
 
--- how many entries the node holds, how many bytes their values have in all, and how many entries its trims have dropped
+-- the number of the node's entries, the number of bytes of their values in all, and the number of entries that
+-- its trims have dropped
 abbrev pub totals_of : NodeValue → NodeTotals
 totals_of n = record {
   entries = length n.cache.entries;
@@ -225,7 +228,8 @@ totals_of n = record {
   trimmed = sum_by (λ r. trimmed_by r.reply) n.records;
 }
 
--- a step keeps the node's row, passes, name and settings; and a node that stores no records breaks by none
+-- a step keeps the node's history, passes, name and settings; and a node that stores no records never becomes
+-- broken by it
 pub record KeepsNode (old new : NodeValue) : Type 0 where
   pub row : new.seen.events ≡ old.seen.events
   pub same : new ≡ record old { records = new.records; cache = new.cache; seen = new.seen; broken = new.broken }
@@ -236,7 +240,7 @@ abbrev pub IsOfEvent : Op → Type 0
 IsOfEvent (Event stamp tags) = Unit {0}
 IsOfEvent op = ⊥
 
--- Its history goes on by such steps alone. If it stores no records, its values have as many bytes as before.
+-- Its history continues only with such steps. If it stores no records, its values have as many bytes as before.
 pub record GoesOnByEvents (old new : NodeValue) : Type 0 where
   pub keeps : KeepsNode old new
   pub bytes : ¬ (HasRow old.name) → node_bytes new ≡ node_bytes old
@@ -266,7 +270,7 @@ pub record HasVacuumedPorts (old new : CallerPorts) : Type 0 where
   pub taken : HasNoEventFor old.database new.node
   pub is : new ≡ record old { database = after_vacuum old.database; node = new.node }
 
--- of a vacuum after that: as of the database's; or memory was wanting for an event, which the node has not taken
+-- of a vacuum after that: as of the database's; or no memory for an event, which the node has not taken
 abbrev pub IsKeepRefused : DatabaseValue → NodeValue → NodeValue → DbError → Type 0
 IsKeepRefused d old new Memory = StaysBehind d old new
 IsKeepRefused d old new e = IsVacuumRefused d e
@@ -280,8 +284,8 @@ is_of_pin (requests.AddPin pinned) = true
 is_of_pin (requests.Unpin stamp) = true
 is_of_pin request = false
 
--- What a request does, once it was replied so: a pin is made; a pin is added, or a hold taken away; the node
--- makes a step. A query changes nothing. What is refused changes nothing that is said here.
+-- The effect of a request with this reply: a pin is made; a pin is added, or a hold removed; the node makes a
+-- step. A query changes nothing. An error changes nothing of this.
 abbrev pub CallerExchangeTransition : FrontValue → CallerPorts → CallerPorts → Exchange → Type 0
 CallerExchangeTransition seen old new (exchanges.Pin now at_least pinned) = CallerPinTransition now at_least old new pinned
 CallerExchangeTransition seen old new (exchanges.AddPin pinned given added) = CallerAddTransition pinned old new added
@@ -293,8 +297,8 @@ CallerExchangeTransition seen old new (exchanges.Query query stamp found) =
 CallerExchangeTransition seen old new (exchanges.Insert node entry kept) =
     (new ≡ record old { node = new.node }) × CallerInsertTransition old.budget seen entry old.node new.node kept
 
--- The reply is one to the request, and right in the history that it shows, which is of the row; and so much comes of
--- the request. The history only grows.
+-- The reply is one to the request, and correct in the history that it shows, which is the named one; and this
+-- is the effect of the request. The history only grows.
 pub record HasAskedPorts (next : Next) (seen : FrontValue) (request : PortRequest) (old new : CallerPorts)
     (reply : PortReply) : Type 0 where
   pub answer : IsReplyTo next request reply

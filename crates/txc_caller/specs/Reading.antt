@@ -29,26 +29,27 @@ pub record CallerValue : Type 0 where
   pub ports : CallerPorts
   pub renew_after : ℕ
 
--- ---- what is true of a transaction
+-- ---- the invariant of a transaction
 
--- In the history that it has seen, its pin set means what it says. There is an object for each function, and one node. The open
--- call is of a function that there is.
+-- In the history that it has seen, its pin set is correct. There is an object for each function, and one node.
+-- The open call is of an existing function.
 pub record IsLent (next : Next) (t : TxnValue) : Type 0 where
   pub meant : IsTxn next t
   pub functions : HaveAllFunctions t.objects
   pub top : ForSome (open_call t.core) (λ (k : Call). k.function ≤ LAST_FUNCTION)
   pub nodes : t.core.nodes ≡ 1
 
--- no call is open; or a function of it is to begin or to continue, and no pin is under way
+-- no call is open; or one of its functions must begin or continue, and no pin is being made
 abbrev pub IsRestingCore : CoreValue → Type 0
 IsRestingCore c = IsIdle c ⊎ ((c.pinning ≡ None) × NeedsFunction c.call.need)
 
--- Between two acts it asks no port. Nothing of it is said of a caller, so that it stays true whatever others do.
+-- Between two acts it has no pending request. It states nothing about a caller, so it stays true whatever
+-- others do.
 pub record IsCallerTxn (next : Next) (t : TxnValue) : Type 0 where
   pub lent : IsLent next t
   pub rests : IsRestingCore t.core
 
--- the transaction is of this caller: what it has seen is of the caller's row, and it renews pins as the caller does
+-- the transaction is of this caller: it has seen the caller's history, and it renews pins as the caller does
 pub record IsOf (c : CallerValue) (t : TxnValue) : Type 0 where
   pub row : t.core.seen.events ≡ c.ports.database.events
   pub renew_after : t.core.renew_after ≡ c.renew_after
@@ -57,7 +58,7 @@ pub record IsOf (c : CallerValue) (t : TxnValue) : Type 0 where
 abbrev pub open_states : CoreValue → List State
 open_states c = map (λ (m : Pin). state_at c.seen.history m.stamp) c.pins.members
 
--- where a query runs that is asked now: at this stamp; none if it pins the present first
+-- the stamp at which a query made now runs; none if it pins the present first
 abbrev pub chosen_stamp : Choice → Option ℕ
 chosen_stamp (At stamp) = Some stamp
 chosen_stamp Present = None
@@ -71,18 +72,19 @@ read_stamp c = chosen_stamp (choice_of c.bounds.now c.renew_after c.pins)
 abbrev pub recorded_as : Call → List ℕ → Recorded
 recorded_as k value = record { key = k; value = value }
 
--- what comes of an act in this call
+-- the effect of an act in this call
 abbrev pub IsReadingStep : CoreValue → CoreValue → Call → Result Step CallerError → Type 0
 IsReadingStep old new k step = IsStepOf (recorded_as k) old.recorded new.recorded new.call k step
 
--- what each act keeps of its own transaction: the settings and the functions; and more is seen of the one history
+-- the invariant of its own transaction that each act keeps: the settings and the functions; and more of the
+-- same history is seen
 pub record KeepsTxn (old new : TxnValue) : Type 0 where
   pub settings : KeepsSettings old.core new.core
   pub functions : numbers_of new.objects ≡ numbers_of old.objects
   pub longer : IsPrefix old.core.seen.history new.core.seen.history
   pub events : new.core.seen.events ≡ old.core.seen.events
 
--- what each act keeps of the caller, for every transaction that is open: the row, and the setting
+-- the invariant of the caller that each act keeps, for every open transaction: the history, and the setting
 pub record KeepsCaller (old new : CallerValue) : Type 0 where
   pub row : new.ports.database.events ≡ old.ports.database.events
   pub renew_after : new.renew_after ≡ old.renew_after
@@ -93,7 +95,7 @@ with_cushion cushion c = record c { ports = record c.ports { cushion = cushion }
 
 -- ---- beginnings and ends
 
--- a core for those bounds, of the row, with the pins that the pincushion hands out
+-- a core for those bounds, of the row, with the pins that the pincushion issues
 pub record IsBegunCore (renewed : ℕ) (asked : Bounds) (row : Name) (cushion : CushionValue) (c : CoreValue) : Type 0 where
   pub fits : (next : Next) (objects : Objects) → AllIdle objects → IsCore next objects c
   pub holds : (next : Next) (objects : Objects) → CoreHolds next c.seen.history objects c
@@ -107,8 +109,9 @@ pub record IsBegunCore (renewed : ℕ) (asked : Bounds) (row : Name) (cushion : 
   pub taken : c.taken ≡ map (λ p. p.stamp) (handed_out cushion asked.now asked.staleness asked.at_least)
   pub present : c.pins.has_present ≡ true
 
--- It has the newest of the pins that its bounds allow, and the present, an object for each function, and no call is open. Each of
--- its pins has one user more, which is to be given back at its end, and nothing else of the caller has changed.
+-- It has the newest of the pins that its bounds allow, and the present, an object for each function, and no
+-- call is open. Each of its pins has one more user, which must be removed at its end, and nothing else of the
+-- caller has changed.
 pub record IsBegunReading (next : Next) (asked : Bounds) (old new : CallerValue) (t : TxnValue) : Type 0 where
   pub bounds : t.core.bounds ≡ asked
   pub recorded : t.core.recorded ≡ []
@@ -121,7 +124,7 @@ pub record IsBegunReading (next : Next) (asked : Bounds) (old new : CallerValue)
   pub of_caller : IsOf new t
   pub users : new ≡ with_cushion (after_fresh old.ports.cushion asked.now asked.staleness asked.at_least) old
 
--- its pins are given back, and all else of the caller stays
+-- its pins are returned, and everything else of the caller stays
 pub record HasEndedReading (t : TxnValue) (old new : CallerValue) : Type 0 where
   pub given_back : AreGivenBack t.core.taken old.ports.cushion new.ports.cushion
   pub same : new ≡ with_cushion new.ports.cushion old

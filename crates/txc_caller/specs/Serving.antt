@@ -1,4 +1,4 @@
--- What the requests of an act leave.
+-- The effects of the requests of an act.
 use Rattle.std.specs.Prelude.{◌≡◌, ◌⊎◌, ◌≤◌, ◌-◌, ℕ, List, [], ◌∷◌, ◌++◌, Option, Some, None, IfSome, Result, Ok, Err}
 use Rattle.std.specs.Option.{ForSome}
 use Rattle.txc_tags.specs.Keys.{Call}
@@ -71,14 +71,15 @@ IsHeldFor (Some (needs.Insert e)) x = x.answer ≡ answers.Value e.value
 IsHeldFor (Some (needs.Resume held)) x = x ≡ held
 IsHeldFor need x = Unit {0}
 
--- how many requests about the pin of the present may come, with this one: the pin, the addition of it, the end of its hold
+-- the number of requests about the pin of the present that may follow, including this one: the pin, its
+-- addition, the removal of its hold
 abbrev pub pins_to_come : HandTurn → ℕ
 pins_to_come (Some (Ask (requests.Pin now at_least))) = 3
 pins_to_come (Some (Ask (requests.AddPin pinned))) = 2
 pins_to_come (Some (Ask (requests.Unpin stamp))) = 1
 pins_to_come turn = 0
 
--- The function that is to go on once the requests of this turn were made, among the frames that there were: that of the call
+-- The function that must continue once the requests of this turn were made, among the frames: that of the call
 -- that was looked up, or the innermost one.
 abbrev pub FunctionAfter : CoreValue → HandTurn → Calling → Result Step CallerError → Type 0
 FunctionAfter old turn new (Ok Compute) = IsUnended turn
@@ -87,12 +88,12 @@ FunctionAfter old turn new (Ok Answered) = IsUnended turn
     × ((x : HeldAnswer) × (new.need ≡ Some (needs.Resume x)) × (new.frames ≡ old.call.frames) × IsHeldFor old.call.need x)
 FunctionAfter old turn new step = Unit {0}
 
--- the objects are those that the turn leaves; all are idle after a refusal
+-- the objects are those after the turn; all are idle after an error
 abbrev pub ObjectsAfter : Objects → Objects → Result Step CallerError → Type 0
 ObjectsAfter old new (Ok step) = new ≡ old
 ObjectsAfter old new (Err error) = AllIdle new
 
--- what comes of a turn whose request was made, if it was one about the pin of the present
+-- the effect of a turn whose request was made, if it was one about the pin of the present
 pub record HasPassed (row : Name) (old : TxnValue) (turn : HandTurn) (new : TxnValue) (after : HandTurn) : Type 0 where
   pub going : IsGoing row new.core after
   pub of_call : (before : List Recorded) (k : Call) → IsTurnOf before k old.core turn → IsTurnOf before k new.core after
@@ -105,13 +106,14 @@ pub record HasPassed (row : Name) (old : TxnValue) (turn : HandTurn) (new : TxnV
   pub frames : IsUnended after → new.core.call.frames ≡ old.core.call.frames
   pub held : IsUnended after → (x : HeldAnswer) → IsHeldFor new.core.call.need x → IsHeldFor old.core.call.need x
 
--- The function that a call needs once its last request was made: that of the call that was looked up, or the innermost one.
+-- The function that a call needs once its last request was made: that of the call that was looked up, or the
+-- innermost one.
 abbrev pub NeedsAfter : CoreValue → Option Need → Type 0
 NeedsAfter old (Some (needs.Begin k)) = WaitsForCall old k
 NeedsAfter old (Some (needs.Resume x)) = IsHeldFor old.call.need x
 NeedsAfter old need = Unit {0}
 
--- what comes of a turn whose request was made, if it was one: nothing more is asked
+-- the effect of a turn whose request was made, if it was one: no further request follows
 pub record HasMadeRequest (old : TxnValue) (turn : HandTurn) (new : TxnValue) (after : HandTurn) : Type 0 where
   pub fits : IsHandTurn new.core after
   pub rests : IfSome after (λ t. ¬ (IsAsk t))
@@ -122,7 +124,7 @@ pub record HasMadeRequest (old : TxnValue) (turn : HandTurn) (new : TxnValue) (a
   pub frames : after ≡ None → new.core.call.frames ≡ old.core.call.frames
   pub needs : after ≡ None → NeedsAfter old.core new.core.call.need
 
--- What comes of a turn whose requests were all made.
+-- The effect of a turn whose requests were all made.
 pub record HasServed (old : TxnValue) (turn : HandTurn) (new : TxnValue) (step : Result Step CallerError) : Type 0 where
   pub keeps : KeepsTxn old new
   pub rests : IsRestingCore new.core
@@ -131,14 +133,15 @@ pub record HasServed (old : TxnValue) (turn : HandTurn) (new : TxnValue) (step :
   pub step_is : (before : List Recorded) (k : Call) → IsTurnOf before k old.core turn
       → IsReadingStep (record old.core { recorded = before }) new.core k step
 
--- ---- what the requests of a turn leave of the ports
+-- ---- the effect of a turn's requests on the ports
 
--- the error with which the call ended, if it was refused
+-- the error with which the call ended, if it failed
 abbrev pub turn_error : HandTurn → Option TxnError
 turn_error (Some (Ended (Err error))) = Some error
 turn_error turn = None
 
--- What the last request of an act is for: the lookup of the call that is to begin after the pin, or else what the call needs.
+-- The purpose of the last request of an act: the lookup of the call that begins after the pin, or else the
+-- call's need.
 abbrev pub coming_need : Option Call → Option Need → Option Need
 coming_need None need = need
 coming_need (Some k) need = Some (needs.Lookup k)
@@ -154,7 +157,7 @@ IsNeedStep budget (Some (needs.Insert entry)) old new =
     (seen : FrontValue) × (kept : Option Kept) × CallerInsertTransition budget seen entry old new kept
 IsNeedStep budget need old new = new ≡ old
 
--- the database refused the query that is needed, at this stamp
+-- the database failed at the needed query, at this stamp
 abbrev pub IsNeedRefused : Option Need → ℕ → DatabaseValue → TxnError → Type 0
 IsNeedRefused need stamp d error = (query : RowQuery) × (need ≡ Some (needs.Query query))
     × ((cause : DbError) × IsQueryRefused d query stamp cause × (error ≡ refused_request cause))
@@ -166,8 +169,8 @@ pub record StillLeads (c : CoreValue) (old : CallerPorts) (turn : HandTurn) (new
   pub taken_is : taken ≡ c.taken
   pub failed_so : failed ≡ turn_error turn
 
--- The last request was made, which is not about the pin. If the call was refused then, memory was wanting, or the database refused
--- the query.
+-- The last request was made, which is not about the pin. If the call failed then, memory was missing, or the
+-- database failed at the query.
 pub record LastLeads (c : CoreValue) (old new : CallerPorts) (taken : List ℕ) (failed : Option TxnError) : Type 0 where
   pub same : new ≡ record old { node = new.node }
   pub step : IsNeedStep old.budget c.call.need old.node new.node
@@ -185,7 +188,7 @@ pub record AddedLeads (was : List ℕ) (need : Option Need) (old : CallerPorts) 
   pub taken_is : taken ≡ was ++ pinned.stamp ∷ []
   pub refused : IfSome failed (λ error. (error ≡ Memory) ⊎ IsNeedRefused need pinned.stamp between.database error)
 
--- the pin was not added, and the call was refused for that
+-- the pin was not added, and the call failed for that reason
 pub record DroppedLeads (was : List ℕ) (old : CallerPorts) (pinned : Pinned) (new : CallerPorts) (taken : List ℕ)
     (failed : Option TxnError) : Type 0 where
   pub cause : AddError
@@ -197,7 +200,7 @@ abbrev pub AddLeads : List ℕ → Option Need → CallerPorts → Pinned → Ca
 AddLeads was need old pinned new taken failed =
     AddedLeads was need old pinned new taken failed ⊎ DroppedLeads was old pinned new taken failed
 
--- the hold of a pin that was not added was taken away, and the call was refused for the reason
+-- the hold of a pin that was not added was removed, and the call failed for that reason
 pub record UnpinLeads (c : CoreValue) (old : CallerPorts) (stamp : ℕ) (new : CallerPorts) (taken : List ℕ)
     (failed : Option TxnError) : Type 0 where
   pub error : TxnError
@@ -207,7 +210,7 @@ pub record UnpinLeads (c : CoreValue) (old : CallerPorts) (stamp : ℕ) (new : C
   pub taken_is : taken ≡ c.taken
   pub failed_so : failed ≡ Some error
 
--- the database gave no pin, and the call was refused for that
+-- the database made no pin, and the call failed for that reason
 pub record UngivenLeads (c : CoreValue) (old new : CallerPorts) (taken : List ℕ) (failed : Option TxnError) : Type 0 where
   pub cause : DbError
   pub refused : HasRefusedPin (least_present c.bounds c.pins.members) old new cause
@@ -221,8 +224,8 @@ pub record GivenLeads (c : CoreValue) (old new : CallerPorts) (taken : List ℕ)
   pub gives : HasGivenPin c old given pinned
   pub adds : AddLeads c.taken (need_to_come c) given pinned new taken failed
 
--- What all requests of a turn leave of the ports, and of the stamps that the core was handed or added; and with which error the
--- call ended, if it was refused.
+-- The ports after all requests of a turn, and the stamps that were issued to the core or added by it; and the
+-- error of the call, if it failed.
 abbrev pub TurnLeads : CoreValue → CallerPorts → HandTurn → CallerPorts → List ℕ → Option TxnError → Type 0
 TurnLeads c old (Some (Ask (requests.Pin now at_least))) new taken failed =
     UngivenLeads c old new taken failed ⊎ GivenLeads c old new taken failed
@@ -235,7 +238,7 @@ TurnLeads c old (Some (Ask (requests.Insert node entry))) new taken failed = Las
 TurnLeads c old (Some (Ended outcome)) new taken failed = StillLeads c old (Some (Ended outcome)) new taken failed
 TurnLeads c old None new taken failed = StillLeads c old None new taken failed
 
--- what the requests of the turn leave, if those of the other turn, which came of it, leave the same
+-- the effect of the turn's requests, if those of the other turn, which follows it, have the same effect
 abbrev pub LeadsBy : CoreValue → CallerPorts → HandTurn → CoreValue → CallerPorts → HandTurn → Type 0
 LeadsBy c old turn d mid after = (new : CallerPorts) (taken : List ℕ) (failed : Option TxnError)
     → TurnLeads d mid after new taken failed → TurnLeads c old turn new taken failed

@@ -41,14 +41,15 @@ pub record CallerWriting : Type 0 where
   pub objects : Objects
   pub is_held : Bool
 
--- Between two acts the database is asked nothing. There is an object for each function. Nothing of it is said of a caller.
+-- Between two acts there is no pending query. There is an object for each function. It states nothing about a
+-- caller.
 pub record IsCallerWrite (next : Next) (w : CallerWriting) : Type 0 where
   pub fits : IsRwByHand next w.objects w.core
   pub functions : HaveAllFunctions w.objects
   pub rests : w.core.reading ≡ None
 
--- The transaction is of this caller: what it was answered is right at its base, in the caller's history, and in each other state
--- in which the queries that were answered give what they give there. A longer history leaves that so.
+-- The transaction is of this caller: its results are correct at its base, in the caller's history, and in each
+-- other state in which the answered queries have the same answers. A longer history leaves that true.
 abbrev pub IsWriteOf : Next → CallerValue → CallerWriting → Type 0
 IsWriteOf next c w = RwHolds next c.ports.database.history w.objects w.core
 
@@ -68,12 +69,13 @@ pub record IsBegunWrite (base : ℕ) (held : Bool) (w : CallerWriting) : Type 0 
 
 -- ---- acts
 
--- the reply to this query is that of the state of the stamp, or the database refused it
+-- the reply to this query is that of the state of the stamp, or the database's error
 abbrev pub IsReplyAt : DatabaseValue → ℕ → Query → Result Found DbError → Type 0
 IsReplyAt d base query (Ok found) = IsFoundAt d.history base query found
 IsReplyAt d base query (Err error) = IsQueryRefused d query base error
 
--- The query that the turn asks was asked, at the base, and the core has gone on with the reply. If it asks none, all stays.
+-- The query that the turn asks was asked, at the base, and the core has gone on with the reply. If it asks
+-- none, all stays.
 abbrev pub HasLed : DatabaseValue → RwValue → RwHandTurn → RwValue → RwHandTurn → Type 0
 HasLed d old None new last = (new ≡ old) × (last ≡ None)
 HasLed d old (Some (Ended outcome)) new last = (new ≡ old) × (last ≡ Some (Ended outcome))
@@ -86,17 +88,17 @@ IsHeard None = Unit {0}
 IsHeard (Some (Ended outcome)) = Unit {0}
 IsHeard (Some (AskTurn query)) = ⊥
 
--- what the caller does next after a turn that asks no query
+-- the caller's next step after a turn that makes no query
 abbrev pub IsStepAfter : Calling → RwHandTurn → Result Step CallerError → Type 0
 IsStepAfter call None result = (step : Step) × (result ≡ Ok step) × IsNextStep call step
 IsStepAfter call (Some (Ended outcome)) result = result ≡ ended_step outcome
 IsStepAfter call (Some (AskTurn query)) result = ⊥
 
--- what comes of an act in this call
+-- the effect of an act in this call
 abbrev pub IsWritingStep : RwValue → RwValue → Call → Result Step CallerError → Type 0
 IsWritingStep old new k step = IsStepOf (given.Value k) old.answers new.answers new.call k step
 
--- the machine of calls refused the ask, within these limits
+-- the machine of calls rejected the step, within these limits
 pub record IsRefusedByCall (limits : Limits) (core : RwValue) (objects : Objects) (ask : Ask) (error : TxnError)
     : Type 0 where
   pub need : Need
@@ -105,25 +107,25 @@ pub record IsRefusedByCall (limits : Limits) (core : RwValue) (objects : Objects
   pub after : AfterRan limits core.call.frames core.call.asked objects need ask (Err cause)
   pub is : error ≡ refused_call cause
 
--- the database refused the query
+-- the database failed at the query
 abbrev pub IsAskedQueryRefused : DatabaseValue → ℕ → Ask → TxnError → Type 0
 IsAskedQueryRefused d base (asks.Query query) error =
     (cause : DbError) × IsQueryRefused d query base cause × (error ≡ refused_request cause)
 IsAskedQueryRefused d base ask error = ⊥
 
--- Why an act was refused, within these limits: an allocation failed; or the machine of calls refused the ask; or the database
--- refused the query. Or no function is computed.
+-- Errors of an act, within these limits: an allocation failed; or the machine of calls rejected the step; or
+-- the database failed at the query. Or no function is being computed.
 abbrev pub IsActRefused : Limits → DatabaseValue → RwValue → Objects → Ask → CallerError → Type 0
 IsActRefused limits d core objects ask (Txn error) =
     (error ≡ Memory) ⊎ (IsRefusedByCall limits core objects ask error ⊎ IsAskedQueryRefused d core.base ask error)
 IsActRefused limits d core objects ask NoFunction = top_call core.call ≡ None
 
--- the queries that count as read once this ask was answered
+-- the queries that count as read after this step was answered
 abbrev pub queried_for : Ask → List Query
 queried_for (asks.Query query) = query ∷ []
 queried_for ask = []
 
--- of a query by no function: out of memory; or the database refused it
+-- of a query of the transaction itself: no memory; or the database failed
 abbrev pub IsOwnReadRefused : DatabaseValue → ℕ → Query → TxnError → Type 0
 IsOwnReadRefused d base query error =
     (error ≡ Memory) ⊎ ((cause : DbError) × IsQueryRefused d query base cause × (error ≡ refused_request cause))
@@ -146,8 +148,8 @@ hold_of false base = None
 abbrev pub held_base : CallerWriting → Option ℕ
 held_base w = hold_of w.is_held w.core.base
 
--- No call is open, and nothing that it read has changed: the changes are committed, the hold of its base is taken away, and the
--- node may have taken the events. All else of the caller stays.
+-- No call is open, and nothing that it read has changed: the changes are committed, the hold of its base is
+-- removed, and the node may have taken the events. Everything else of the caller stays.
 pub record HasCommittedWrite (old : CallerValue) (w : CallerWriting) (stamp : ℕ) (new : CallerValue) : Type 0 where
   pub idle : IsRwIdle w.core
   pub could : IsCommittable old.ports.database w.core.base (tags_read w.core) w.core.changes
@@ -158,19 +160,19 @@ pub record HasCommittedWrite (old : CallerValue) (w : CallerWriting) (stamp : �
     ports = record old.ports { database = new.ports.database; node = new.ports.node };
   }
 
--- a call is open; or the database refused
+-- a call is open; or the database failed
 abbrev pub IsWriteCommitRefused : CallerValue → CallerWriting → WriteError → Type 0
 IsWriteCommitRefused c w writes.MidCall = ¬ (IsRwIdle w.core)
 IsWriteCommitRefused c w (writes.Database error) =
     IsCommitRefused c.ports.database w.core.base (tags_read w.core) w.core.changes error
 
--- what a refusal leaves of the caller: all as it was, but that the database may have found itself broken
+-- the caller after an error: as before, except that the database may have found itself broken
 abbrev pub IsWriteLeft : CallerValue → WriteError → CallerValue → Type 0
 IsWriteLeft old writes.MidCall new = new ≡ old
 IsWriteLeft old (writes.Database error) new = IsLeft old.ports.database new.ports.database error
     × (new ≡ record old { ports = record old.ports { database = new.ports.database } })
 
--- it is given up: the hold of its base is taken away, and all else of the caller stays
+-- it is aborted: the hold of its base is removed, and everything else of the caller stays
 pub record HasAbortedWrite (w : CallerWriting) (old new : CallerValue) : Type 0 where
   pub unheld : IsLetGo (held_base w) old.ports.database new.ports.database
   pub same : new ≡ record old { ports = record old.ports { database = new.ports.database } }

@@ -7,21 +7,21 @@ use txc_db::HistoryFront;
 use txc_ports::{PortReply, PortRequest};
 use txc_stamp::Stamp;
 
-/// What a call asks of the ports.
+/// The ports of a call.
 pub(crate) trait CallPorts<A: App> {
     ghost use Rattle.txc_caller.specs.Ports.{CallerPorts, HasAskedPorts};
     ghost use Rattle.txc_ports.specs.Asking.{MayAsk};
 
-    // What they are.
+    // Their value in contracts.
     ghost ports: { Self → CallerPorts };
 
-    /// Asks what a transaction asks. It has seen that much of the history.
+    /// Makes the transaction's request. `seen` is the history that the transaction has seen.
     fn ask(&mut self, alloc: Global, seen: &HistoryFront, request: PortRequest) -> PortReply
         requires row { seen.now.events ≡ (ports self.old).database.events }
         requires may { MayAsk A.next (ports self.old).database.events 1 seen.now.history request }
         ensures { HasAskedPorts A.next seen.now request (ports self.old) (ports self.new) result };
 
-    /// Takes the hold of a pin away that was not added, if there is one. It takes no memory.
+    /// Removes the hold of a pin that was not added, if there is one. Does not allocate.
     fn let_go(&mut self, unpin: Option<Stamp>)
         ensures unpinned { IsLetGo unpin (ports self.old).database (ports self.new).database }
         ensures same { ports self.new ≡ record (ports self.old) { database = (ports self.new).database } }

@@ -1,5 +1,5 @@
-//! A caller that computes the functions of its calls itself.
-ghost use Rattle.std.specs.Prelude.{◌≡◌, ◌≤◌, [], IfErr, IfOk, IfSome, OnErr, OnOk, map, true, false};
+//! A caller that computes its own functions.
+ghost use Rattle.std.specs.Prelude.{◌≡◌, ◌≤◌, [], IfErr, IfOk, IfSome, OnErr, OnOk, map, true, false, ◌↔◌, Err, IsOk, Ok};
 ghost use Rattle.txc_app.specs.Eval.{Next};
 ghost use Rattle.txc_cushion.specs.Cushion.{after_fresh, after_give_back, handed_out};
 ghost use Rattle.txc_cushion.specs.Refusals.{HaveUsers};
@@ -10,9 +10,15 @@ ghost use Rattle.txc_txn.specs.Core.{value_of, CoreHolds, IsCore, IsIdle};
 ghost use Rattle.txc_node.specs.declared.node.TheConstants.{MAX_RECENT, MOST_CAPACITY};
 ghost use Rattle.txc_stream.specs.declared.row.TheConstants.{MAX_CAPACITY as MAX_ROW};
 ghost use Rattle.txc_caller.specs.Ports.{GoesOnByEvents, HasEventRoom, HasGrownDatabase, HasNoEventFor, IsNewDatabase, StaysBehind};
-ghost use Rattle.txc_caller.specs.Reading.{IsBegunReading, KeepsCaller};
+ghost use Rattle.txc_caller.specs.Reading.{IsBegunReading, KeepsCaller, CallerValue};
+ghost use Rattle.txc_db.specs.Calls.{IsBase, IsHoldable, IsHoldRefused};
+ghost use Rattle.txc_db.specs.DatabaseValue.{after_hold, newest};
+ghost use Rattle.txc_db.specs.Steps.{IsBaseRefused};
+
+mod keeping;
 
 use crate::caller_txn::CallerTxn;
+use crate::caller_write::CallerWrite;
 use crate::lent_txn::LentTxn;
 use crate::plain_ports::{PlainPorts, give_back};
 use crate::ports::Ports;
@@ -23,16 +29,17 @@ use txc_cushion::{CushionCore, Pins};
 use txc_db::{DbError, RowStore};
 use txc_ports::Bounds;
 use txc_shared::NodeSettings;
+use txc_stamp::Stamp;
 use txc_txn::TxnCore;
 
-/// A database, its pincushion and one node, of a caller that computes the functions of its calls itself. Any number of its
-/// transactions are open at once: each is a value of its own, and is lent the caller for each act.
+/// A database, its pincushion and one node, of a caller that computes its own functions. Any number of its
+/// transactions can be open at once: each is a value of its own, and is lent the caller for each act.
 pub struct Caller<A: App> {
     pub(crate) ports: Ports<A>,
     pub(crate) renew_after: u64,
 }
 
-// Not derived: a derived one is proved again in each crate above.
+// Not derived, since a derived one would be proved again in each crate above.
 impl<A: App> Drop for Caller<A> {
     fn drop(self) {
         let Caller {
@@ -50,7 +57,7 @@ impl<A: App> Model for Caller<A> {
     ghost view = { λ c. record { ports = c.ports; renew_after = c.renew_after } };
 }
 
-// Gives one user of each of the pins back. It takes no memory.
+// Removes one user of each of the pins. Does not allocate.
 fn give_back_each(cushion: &mut CushionCore, pins: &Pins)
     ensures given_back { HaveUsers cushion.old.entries (map (λ pin. pin.stamp) pins.now.pins.items)
         → cushion.new ≡ after_give_back cushion.old (map (λ pin. pin.stamp) pins.now.pins.items) }
@@ -61,7 +68,8 @@ fn give_back_each(cushion: &mut CushionCore, pins: &Pins)
     }
 }
 
-// A core with the pins that the pincushion hands out for its bounds. Out of memory, they are given back.
+// Makes a core with the pins that the pincushion issues for its bounds. If memory cannot be allocated, they are
+// returned.
 pub(crate) fn begun(
     alloc: Global,
     cushion: &mut CushionCore,
@@ -105,10 +113,13 @@ pub(crate) fn begun(
 }
 
 impl<A: App> Caller<A> {
-    /// Returns a caller with an empty database over that store of rows. It has room for so many events, or stores none, for as
-    /// many as there are stamps. The caller has an empty pincushion and an empty node. With a budget the values of its node have at
-    /// most so many bytes in all, after each of its methods: an insertion makes room first, and a value that alone is over the
-    /// budget is not kept.
+    ghost use Rattle.txc_caller.specs.Writing.{IsBegunWrite, IsWriteOf};
+
+    /// Returns a caller with an empty database over this kind of store, an empty pincushion and an empty node.
+    /// The database has room for `room` events; for `None` it stores none, and has room for 4,294,967,294.
+    /// `budget` limits the bytes of all the node's values after each method: an insertion makes room first, and
+    /// a value that is over the budget by itself is not stored. `renew_after` is in milliseconds. Fails only if
+    /// memory cannot be allocated.
     pub fn new(
         alloc: Global,
         rows: RowStore,
@@ -137,8 +148,8 @@ impl<A: App> Caller<A> {
         })
     }
 
-    /// Begins a transaction that only reads, with the newest of the pins that its bounds allow, and the present. If an allocation
-    /// fails, the pins have no user more.
+    /// Begins a read-only transaction with the newest of the pins that its bounds allow, and the present. If an
+    /// allocation fails, nothing has changed.
     pub fn begin(&mut self, alloc: Global, bounds: Bounds) -> Result<CallerTxn<A>, AllocError>
         ensures begun { IfOk result (IsBegunReading A.next bounds self.old self.new) }
         ensures idle { IfOk result (λ txn. AllIdle txn.objects) }
@@ -152,8 +163,41 @@ impl<A: App> Caller<A> {
         })
     }
 
-    /// Has the node take the events that it has not taken yet, and returns whether it took all: an allocation may fail. It has
-    /// nothing at stamps beyond those.
+    /// Begins a read-write transaction at the newest state. The database holds that stamp until the transaction
+    /// ends, so that no vacuum in between makes it fail. Fails if there is no room for another hold, or memory
+    /// cannot be allocated.
+    pub fn begin_write(&mut self, alloc: Global) -> Result<CallerWrite<A>, DbError>
+        ensures begun { IfOk result (IsBegunWrite (newest self.old.ports.database) true) }
+        ensures of_caller { IfOk result (IsWriteOf A.next self.new) }
+        ensures held { OnOk result (self.new ≡ record self.old {
+          ports = record self.old.ports { database = after_hold self.old.ports.database };
+        }) }
+        ensures only_if { IsOk result → IsHoldable self.old.ports.database }
+        ensures refused { IfErr result (IsHoldRefused self.old.ports.database) }
+        ensures unchanged { OnErr result (self.new ≡ self.old) }
+        ensures caller { KeepsCaller self.old self.new }
+        ensures grown { HasGrownDatabase self.old.ports.database self.new.ports.database }
+    {
+        let base = self.ports.hold(alloc)?;
+        Ok(CallerWrite::over(alloc, base, true))
+    }
+
+    /// Begins a read-write transaction at the state of that stamp, which a receipt named. The database does not
+    /// hold it: a commit fails once a vacuum has passed it. Fails if the stamp is beyond the newest one, or
+    /// already below the horizon.
+    pub fn begin_write_at(&mut self, alloc: Global, base: Stamp) -> Result<CallerWrite<A>, DbError>
+        ensures begun { IfOk result (IsBegunWrite base false) }
+        ensures of_caller { IfOk result (IsWriteOf A.next self.new) }
+        ensures only_if { IsOk result ↔ IsBase self.old.ports.database base }
+        ensures refused { IfErr result (IsBaseRefused self.old.ports.database base) }
+        ensures same { self.new ≡ self.old }
+    {
+        self.ports.check_base(base)?;
+        Ok(CallerWrite::over(alloc, base, false))
+    }
+
+    /// Lets the node take the events that it has not taken yet. Returns `false` if it did not take all, since
+    /// an allocation failed: the node then has nothing at later stamps.
     pub fn take_events(&mut self, alloc: Global) -> bool
         ensures node { GoesOnByEvents self.old.ports.node self.new.ports.node }
         ensures all { result ≡ true → HasNoEventFor self.new.ports.database self.new.ports.node }

@@ -1,4 +1,4 @@
-//! A caller's transaction that only reads.
+//! A caller's read-only transaction.
 ghost use Rattle.std.specs.Prelude.{◌≡◌, ◌≤◌, ◌↔◌, ◌∷◌, [], List, Err, IfErr, IfOk, IsOk, IsSome, IsTrue, MatchOption, None, OnErr, OnOk, Some};
 ghost use Rattle.txc_tags.specs.Keys.{Call};
 ghost use Rattle.txc_tags.specs.declared.key.TheConstants.{LAST_FUNCTION};
@@ -28,17 +28,17 @@ use txc_stamp::Stamp;
 use txc_tags::Key;
 use txc_txn::Receipt;
 
-/// A transaction that only reads, whose functions its caller computes. Whatever functions `A.next` give what the caller says that
-/// its functions ask and give, the receipt explains each answer by them.
+/// A read-only transaction whose functions its caller computes. Let `A.next` be any functions that make the
+/// requests and return the values that the caller reports: the receipt explains each result by them.
 ///
-/// It is a value of its own: each act is lent the caller, the same one that it began with. Whatever else that caller does between
-/// two acts, what it was answered stays. It ends by [`CallerTxn::commit`] or [`CallerTxn::abort`], which give its pins back; if it
-/// is dropped they are not.
+/// It is a value of its own: each act is lent the caller, the same one that it began with. Whatever else that
+/// caller does between two acts, its results stay. [`CallerTxn::commit`] or [`CallerTxn::abort`] ends it and
+/// returns its pins; if it is dropped, the pins stay in use.
 pub struct CallerTxn<A: App> {
     pub(crate) txn: LentTxn<A>,
 }
 
-// Not derived: a derived one is proved again in each crate above.
+// Not derived, since a derived one would be proved again in each crate above.
 impl<A: App> Drop for CallerTxn<A> {
     fn drop(self) {
         let CallerTxn { txn: _ } = self;
@@ -59,7 +59,7 @@ impl<A: App> Model for CallerTxn<A> {
 impl<A: App> CallerTxn<A> {
     ghost use Rattle.txc_app.specs.declared.ask.Ask.TheVariants as asks;
 
-    // Makes an act of the function that is computed.
+    // Makes a step of the function being computed.
     fn act(&mut self, alloc: Global, caller: &mut Caller<A>, ask: Ask) -> Result<Step, CallerError>
         requires row { IsOf caller.old self.old }
         requires asks { AsksNext A.next self.old.objects self.old.core.call ask }
@@ -89,10 +89,11 @@ impl<A: App> CallerTxn<A> {
         step
     }
 
-    /// Asks for the value of a call: by no function the outermost one, else by the function that is computed.
+    /// Requests the value of a call: the outermost one if no function is being computed, otherwise for the
+    /// function being computed.
     ///
-    /// [`Step::Compute`] says that the caller is to compute the function of this call next, under this key. [`Step::Answered`]
-    /// says that the function that asked has its value, by [`CallerTxn::answer`].
+    /// With [`Step::Compute`] the caller must compute the function of this call next. With [`Step::Answered`]
+    /// the requesting function has its value, by [`CallerTxn::answer`].
     pub fn call(
         &mut self,
         alloc: Global,
@@ -123,7 +124,7 @@ impl<A: App> CallerTxn<A> {
         step
     }
 
-    /// Asks for the rows of a query, by the function that is computed.
+    /// Requests the rows of a query for the function being computed. Fails if no function is.
     pub fn query(
         &mut self,
         alloc: Global,
@@ -150,10 +151,11 @@ impl<A: App> CallerTxn<A> {
         self.act(alloc, caller, Ask::Query(query))
     }
 
-    /// Says that the function that is computed gives these bytes. They are kept at the node, under its call, with
-    /// the reach and the tags of what it was answered, if that depends on a row.
+    /// Ends the function being computed with this value. The node stores it under its call, with the reach and
+    /// the tags of its answers, if it depends on a row.
     ///
-    /// [`Step::Answered`] says that the function around it is computed next, and has this value.
+    /// With [`Step::Answered`] the function around it is computed next, and has this value as its answer. Fails
+    /// if no function is being computed.
     pub fn finish(
         &mut self,
         alloc: Global,
@@ -181,8 +183,8 @@ impl<A: App> CallerTxn<A> {
         self.act(alloc, caller, Ask::Done(Bytes::new(bytes)))
     }
 
-    /// Gives the whole open call up, if one is, and returns whether one was. The transaction stays open, and its answers
-    /// are as before. It asks no port, so it is lent no caller.
+    /// Cancels the whole open call, if there is one, and returns `true` if there was. The transaction stays
+    /// open, with its results as before. It uses no port, so it is lent no caller.
     pub fn give_up(&mut self) -> bool
         ensures answer { IsTrue result ↔ IsSome (top_call self.old.core.call) }
         ensures idle { IsIdle self.new.core }
@@ -197,14 +199,14 @@ impl<A: App> CallerTxn<A> {
         was_open
     }
 
-    /// Returns whether a function is computed, so that a call is open.
+    /// Returns `true` if a function is being computed, that is, if a call is open.
     pub fn is_computing(&self) -> bool
         ensures { IsTrue result ↔ IsSome (top_call self.now.core.call) }
     {
         self.txn.core().machine().need().is_some()
     }
 
-    /// Returns the call whose function is computed; none if no call is open.
+    /// Returns the call whose function is being computed, or `None` if no call is open.
     pub fn computed(&self) -> Option<&Key>
         ensures { MatchOption result (computed_calls self.now.core.call ≡ [])
             (λ key. (around : List Call) × (computed_calls self.now.core.call ≡ key.now ∷ around)) }
@@ -212,7 +214,8 @@ impl<A: App> CallerTxn<A> {
         self.txn.core().machine().computing()
     }
 
-    /// Returns the answer with which the function that is computed continues; none if it is to begin, or if no call is open.
+    /// Returns the answer with which the function being computed continues, or `None` if it must begin, or if
+    /// no call is open.
     pub fn answer(&self) -> Option<&Answer>
         ensures { MatchOption result (told_answer self.now.core.call ≡ None)
             (λ answer. told_answer self.now.core.call ≡ Some answer.now) }
@@ -220,21 +223,22 @@ impl<A: App> CallerTxn<A> {
         self.txn.core().held_answer()
     }
 
-    /// Returns the pins at whose stamps every answer is right, the newest first.
+    /// Returns the pins at whose stamps every result is correct, the newest first.
     pub fn members(&self) -> &[Pin]
         ensures { result.now ≡ self.now.core.pins.members }
     {
         self.txn.core().members()
     }
 
-    /// Returns whether the present may still be pinned for it.
+    /// Returns `true` if the present can still be pinned for it.
     pub fn has_present(&self) -> bool
         ensures { result ≡ self.now.core.pins.has_present }
     {
         self.txn.core().has_present()
     }
 
-    /// Returns the stamp of the state that its next query reads; none if that query pins the present first.
+    /// Returns the stamp of the state that its next query reads, or `None` if that query pins the present
+    /// first.
     pub fn read_stamp(&self) -> Option<Stamp>
         ensures { result ≡ read_stamp self.now.core }
     {
@@ -244,15 +248,15 @@ impl<A: App> CallerTxn<A> {
         }
     }
 
-    /// Returns the calls that were answered, with their values, in order.
+    /// Returns the completed calls, with their values, in order.
     pub fn answers(&self) -> &[Recorded]
         ensures { result.now ≡ self.now.core.recorded }
     {
         self.txn.core().answers()
     }
 
-    /// Ends the transaction, and returns what explains its answers. Its pin, if it has one, is not below the stamp that the bounds
-    /// name. In the middle of a call it is refused, and returned as it was. It does not allocate.
+    /// Ends the transaction, and returns its receipt. If the receipt has a pin, its stamp is at least that of
+    /// the bounds. Fails in the middle of a call, and returns the transaction as it was. Does not allocate.
     pub fn commit(self, caller: &mut Caller<A>) -> Result<Receipt, CallerTxn<A>>
         requires row { IsOf caller.old self }
         ensures answers { IfOk result (λ it. it.answers.items ≡ self.core.recorded) }
@@ -278,7 +282,7 @@ impl<A: App> CallerTxn<A> {
         Ok(receipt)
     }
 
-    /// Gives the transaction up, in the middle of a call too. It does not allocate.
+    /// Aborts the transaction, also in the middle of a call. Does not allocate.
     pub fn abort(self, caller: &mut Caller<A>)
         requires row { IsOf caller.old self }
         ensures ended { HasEndedReading self caller.old caller.new }

@@ -1,13 +1,10 @@
-//! A caller's transaction that writes.
-ghost use Rattle.std.specs.Prelude.{◌≡◌, ◌⊎◌, ◌≤◌, ◌++◌, ◌∷◌, ◌↔◌, [], true, false, List, Err, IfErr, IfOk, IsOk, IsSome, IsTrue, MatchOption, None, Ok, OnErr, OnOk, Some};
+//! A caller's read-write transaction.
+ghost use Rattle.std.specs.Prelude.{◌≡◌, ◌⊎◌, ◌≤◌, ◌++◌, ◌∷◌, ◌↔◌, [], false, List, Err, IfErr, IfOk, IsSome, IsTrue, MatchOption, None, Ok, OnErr, OnOk, Some};
 ghost use Rattle.txc_tags.specs.Keys.{Call};
 ghost use Rattle.txc_tags.specs.declared.key.TheConstants.{LAST_FUNCTION};
 ghost use Rattle.txc_rows.specs.States.{answer};
-ghost use Rattle.txc_db.specs.Calls.{IsBase, IsHoldable, IsHoldRefused};
-ghost use Rattle.txc_db.specs.DatabaseValue.{after_hold, newest};
 ghost use Rattle.txc_db.specs.History.{state_at};
 ghost use Rattle.txc_db.specs.Shared.{IsEventIn, IsQuietIn};
-ghost use Rattle.txc_db.specs.Steps.{IsBaseRefused};
 ghost use Rattle.txc_registry.specs.Objects.{numbers_of, AllIdle};
 ghost use Rattle.txc_rw.specs.Answers.{AreRightIn};
 ghost use Rattle.txc_rw.specs.Core.{tags_read, IsRwIdle};
@@ -27,7 +24,6 @@ use crate::writing::{act, read};
 use std::alloc::Global;
 use std::marker::{Model, PhantomData};
 use txc_app::{Answer, App, Ask, Bytes};
-use txc_db::DbError;
 use txc_ports::TxnError;
 use txc_rows::{Change, Query, Row};
 use txc_rw::{Given, RwCore};
@@ -35,11 +31,13 @@ use txc_stamp::Stamp;
 use txc_tags::{Key, Table};
 use txc_told::Told;
 
-/// A transaction that writes, whose functions its caller computes. It reads the state of one stamp, uses no node, and keeps its
-/// changes until it commits, which it does if nothing that it has read has changed since that stamp.
+/// A read-write transaction whose functions its caller computes. It reads the state of one stamp, its base,
+/// uses no node, and buffers its changes until it commits. It commits if nothing that it has read has changed
+/// since.
 ///
-/// It is a value of its own: each act is lent the caller, the same one that it began with. It ends by [`CallerWrite::commit`] or
-/// [`CallerWrite::abort`], which take the hold of its base away, if it has one; if it is dropped that stays.
+/// It is a value of its own: each act is lent the caller, the same one that it began with.
+/// [`CallerWrite::commit`] or [`CallerWrite::abort`] ends it and removes the hold of its base, if it has one;
+/// if it is dropped, that hold stays.
 pub struct CallerWrite<A: App> {
     core: RwCore,
     told: Told,
@@ -47,7 +45,7 @@ pub struct CallerWrite<A: App> {
     of: PhantomData<A>,
 }
 
-// Not derived: a derived one is proved again in each crate above.
+// Not derived, since a derived one would be proved again in each crate above.
 impl<A: App> Drop for CallerWrite<A> {
     fn drop(self) {
         let CallerWrite {
@@ -70,48 +68,13 @@ impl<A: App> Model for CallerWrite<A> {
         (record { core = w.core; objects = w.told.objects; is_held = w.is_held }) };
 }
 
-impl<A: App> Caller<A> {
-    ghost use Rattle.txc_caller.specs.Writing.{IsBegunWrite};
-
-    /// Begins a transaction that writes, and reads the newest state. The database holds that stamp until the transaction ends, so
-    /// that no vacuum between two of its acts has it refused.
-    pub fn begin_write(&mut self, alloc: Global) -> Result<CallerWrite<A>, DbError>
-        ensures begun { IfOk result (IsBegunWrite (newest self.old.ports.database) true) }
-        ensures of_caller { IfOk result (IsWriteOf A.next self.new) }
-        ensures held { OnOk result (self.new ≡ record self.old {
-          ports = record self.old.ports { database = after_hold self.old.ports.database };
-        }) }
-        ensures only_if { IsOk result → IsHoldable self.old.ports.database }
-        ensures refused { IfErr result (IsHoldRefused self.old.ports.database) }
-        ensures unchanged { OnErr result (self.new ≡ self.old) }
-        ensures caller { KeepsCaller self.old self.new }
-        ensures grown { HasGrownDatabase self.old.ports.database self.new.ports.database }
-    {
-        let base = self.ports.hold(alloc)?;
-        Ok(CallerWrite::over(alloc, base, true))
-    }
-
-    /// Begins a transaction that writes, and reads the state of that stamp, which a receipt named. The database does not hold it:
-    /// a commit is refused once a vacuum has passed it.
-    pub fn begin_write_at(&mut self, alloc: Global, base: Stamp) -> Result<CallerWrite<A>, DbError>
-        ensures begun { IfOk result (IsBegunWrite base false) }
-        ensures of_caller { IfOk result (IsWriteOf A.next self.new) }
-        ensures only_if { IsOk result ↔ IsBase self.old.ports.database base }
-        ensures refused { IfErr result (IsBaseRefused self.old.ports.database base) }
-        ensures same { self.new ≡ self.old }
-    {
-        self.ports.check_base(base)?;
-        Ok(CallerWrite::over(alloc, base, false))
-    }
-}
-
 impl<A: App> CallerWrite<A> {
     ghost use Rattle.txc_app.specs.declared.ask.Ask.TheVariants as asks;
     ghost use Rattle.txc_call.specs.Running.{is_done};
     ghost use Rattle.txc_caller.specs.Writing.{ChangeLeaves, IsBegunWrite};
 
-    // Returns a transaction over the state of that stamp.
-    fn over(alloc: Global, base: Stamp, is_held: bool) -> CallerWrite<A>
+    /// Returns a transaction over the state of that stamp.
+    pub(crate) fn over(alloc: Global, base: Stamp, is_held: bool) -> CallerWrite<A>
         ensures { IsBegunWrite base is_held result }
     {
         CallerWrite {
@@ -122,7 +85,7 @@ impl<A: App> CallerWrite<A> {
         }
     }
 
-    // Makes an act of the function that is computed.
+    // Makes a step of the function being computed.
     fn act(&mut self, alloc: Global, caller: &mut Caller<A>, ask: Ask) -> Result<Step, CallerError>
         requires of_caller { IsWriteOf A.next caller.old self.old }
         requires asks { AsksNext A.next self.old.objects self.old.core.call ask }
@@ -162,8 +125,9 @@ impl<A: App> CallerWrite<A> {
         )
     }
 
-    /// Asks for the value of a call: by no function the outermost one, else by the function that is computed. No node is asked, so
-    /// the caller is to compute the function of this call next, under this key. An outermost call takes no memory.
+    /// Requests the value of a call: the outermost one if no function is being computed, otherwise for the
+    /// function being computed. No node is used, so the caller must compute the function of this call next. An
+    /// outermost call does not allocate.
     pub fn call(
         &mut self,
         alloc: Global,
@@ -195,8 +159,8 @@ impl<A: App> CallerWrite<A> {
         Ok(Step::Compute)
     }
 
-    /// Asks for the rows of a query, by the function that is computed. They are those of its base, without changes of its own, and
-    /// the query counts as read.
+    /// Requests the rows of a query for the function being computed. They are those of its base, without the
+    /// transaction's own changes, and the query counts as read. Fails if no function is being computed.
     pub fn query(
         &mut self,
         alloc: Global,
@@ -226,7 +190,8 @@ impl<A: App> CallerWrite<A> {
         self.act(alloc, caller, Ask::Query(query))
     }
 
-    /// Says that the function that is computed gives these bytes, which the function around it is told, if there is one.
+    /// Ends the function being computed with this value, which the function around it gets as its answer, if
+    /// there is one. Fails if no function is being computed.
     pub fn finish(
         &mut self,
         alloc: Global,
@@ -255,8 +220,9 @@ impl<A: App> CallerWrite<A> {
         self.act(alloc, caller, Ask::Done(Bytes::new(bytes)))
     }
 
-    /// Reads the rows of a query of its own, by no function, at its base. They do not show changes of its own, and the query counts
-    /// as read.
+    /// Reads the rows of a query of the transaction itself, at its base. They do not include its own changes,
+    /// and the query counts as read. No call may be open. Fails if the database cannot answer the query, or
+    /// memory cannot be allocated.
     pub fn read(
         &mut self,
         alloc: Global,
@@ -280,7 +246,8 @@ impl<A: App> CallerWrite<A> {
         read(alloc, &mut caller.ports, &mut self.core, query)
     }
 
-    /// Gives the whole open call up, if one is, and returns whether one was. It asks no port, so it is lent no caller.
+    /// Cancels the whole open call, if there is one, and returns `true` if there was. It uses no port, so it is
+    /// lent no caller.
     pub fn give_up(&mut self) -> bool
         ensures answer { IsTrue result ↔ IsSome (top_call self.old.core.call) }
         ensures idle { IsRwIdle self.new.core }
@@ -298,14 +265,14 @@ impl<A: App> CallerWrite<A> {
         was_open
     }
 
-    /// Returns whether a function is computed, so that a call is open.
+    /// Returns `true` if a function is being computed, that is, if a call is open.
     pub fn is_computing(&self) -> bool
         ensures { IsTrue result ↔ IsSome (top_call self.now.core.call) }
     {
         self.core.machine().need().is_some()
     }
 
-    /// Returns the call whose function is computed; none if no call is open.
+    /// Returns the call whose function is being computed, or `None` if no call is open.
     pub fn computed(&self) -> Option<&Key>
         ensures { MatchOption result (computed_calls self.now.core.call ≡ [])
             (λ key. (around : List Call) × (computed_calls self.now.core.call ≡ key.now ∷ around)) }
@@ -313,7 +280,8 @@ impl<A: App> CallerWrite<A> {
         self.core.machine().computing()
     }
 
-    /// Returns the answer with which the function that is computed continues; none if it is to begin, or if no call is open.
+    /// Returns the answer with which the function being computed continues, or `None` if it must begin, or if
+    /// no call is open.
     pub fn answer(&self) -> Option<&Answer>
         ensures { MatchOption result (told_answer self.now.core.call ≡ None)
             (λ answer. told_answer self.now.core.call ≡ Some answer.now) }
@@ -335,23 +303,24 @@ impl<A: App> CallerWrite<A> {
         self.core.answers()
     }
 
-    /// The row is to stand at its table and id once the transaction is committed. It does not see it itself.
+    /// Buffers a put of the row at its table and id. The transaction's own reads do not see it. Fails if there
+    /// are [`txc_rw::MAX_CHANGES`] changes already, or memory cannot be allocated.
     pub fn put(&mut self, row: Row) -> Result<(), TxnError>
         ensures { ChangeLeaves (Change.Put row) self.old self.new result }
     {
         self.core.write(Change::Put(row))
     }
 
-    /// No row is to stand at the table and id once the transaction is committed.
+    /// Buffers the removal of the row at the table and id. Fails as [`CallerWrite::put`] does.
     pub fn remove(&mut self, table: Table, id: u32) -> Result<(), TxnError>
         ensures { ChangeLeaves (Change.Remove table id) self.old self.new result }
     {
         self.core.write(Change::Remove(table, id))
     }
 
-    /// Commits the changes, if no event after its base matches what it has read, and takes the hold of its base away. The node then
-    /// takes the events. Each answer is right just before the commit's event, or, if it changes nothing, at the newest stamp. A
-    /// refusal returns the transaction, open, with its hold.
+    /// Commits the changes if no event after its base matches what it has read, and removes the hold of its
+    /// base. The node then takes the events. Each result is correct just before the commit's event, or, if it
+    /// changes nothing, at the newest stamp. An error returns the transaction, open, with its hold.
     pub fn commit(
         self,
         alloc: Global,
@@ -397,7 +366,8 @@ impl<A: App> CallerWrite<A> {
         })
     }
 
-    /// Gives the transaction up, in the middle of a call too, and takes the hold of its base away. It does not allocate.
+    /// Aborts the transaction, also in the middle of a call, and removes the hold of its base. Does not
+    /// allocate.
     pub fn abort(self, caller: &mut Caller<A>)
         ensures ended { HasAbortedWrite self caller.old caller.new }
         ensures caller { KeepsCaller caller.old caller.new }
@@ -406,7 +376,7 @@ impl<A: App> CallerWrite<A> {
         caller.ports.let_go(self.held_base());
     }
 
-    // Returns the hold that is to be taken away once it ends.
+    // Returns the hold that must be removed once it ends.
     fn held_base(&self) -> Option<Stamp>
         ensures { result ≡ held_base self.now }
     {

@@ -1,4 +1,4 @@
-//! A transaction that only reads, whose caller runs the functions of its calls: one request or one ask after another.
+//! A read-only transaction whose caller runs the functions of its calls: one request or one step after another.
 ghost use Rattle.std.specs.Prelude.{◌≡◌, ◌≤◌, None, Some};
 ghost use Rattle.std.specs.Option.{ForSome};
 ghost use Rattle.txc_app.specs.Eval.{Next};
@@ -22,15 +22,14 @@ use txc_tags::Key;
 use txc_told::Told;
 use txc_txn::{Left, Receipt, TxnCore};
 
-/// A core, with the objects that a registry would have for its functions. In the history that it has seen, its pin set means
-/// what it says.
+/// A core, with the ghost objects of its functions. Its pin set is correct in the history that it has seen.
 pub(crate) struct LentTxn<A: App> {
     core: TxnCore,
     told: Told,
     of: PhantomData<A>,
 }
 
-// Not derived: a derived one is proved again in each crate above.
+// Not derived, since a derived one would be proved again in each crate above.
 impl<A: App> Drop for LentTxn<A> {
     fn drop(self) {
         let LentTxn {
@@ -53,7 +52,7 @@ impl<A: App> Model for LentTxn<A> {
     ghost invariant = { λ t. IsLent A.next (txn_value (value_of t.core) t.told.objects) };
 }
 
-// Leaves the objects as they are, unless the call ended without a value: then none runs.
+// Leaves the objects as they are, unless the call ended without a value: then all become idle.
 fn settle(turn: &Option<Turn<PortRequest, Value>>, told: &mut Told)
     ensures left { ObjectsLeft told.old.objects turn.now told.new.objects }
     ensures functions { numbers_of told.new.objects ≡ numbers_of told.old.objects }
@@ -94,14 +93,14 @@ impl<A: App> LentTxn<A> {
         &self.core
     }
 
-    /// What is true of every such transaction. It does nothing when it runs.
+    /// Every such transaction is correct. This is a lemma: it does nothing when it runs.
     pub(crate) fn is_lent(&self)
         ensures { IsLent A.next self.now }
     {
         let _core = &self.core;
     }
 
-    /// Begins a call.
+    /// Begins a call, and returns its first request, its value or its error.
     pub(crate) fn start(&mut self, key: Key) -> Turn<PortRequest, Value>
         requires { IsIdle self.old.core }
         ensures begun { HasBegunCall self.old key self.new result }
@@ -111,7 +110,7 @@ impl<A: App> LentTxn<A> {
         self.core.start_by_hand(key)
     }
 
-    /// Goes on with the reply to what it asked, which is right in the history that it shows.
+    /// Continues with the reply to the last request. The reply must be correct in the history that it shows.
     pub(crate) fn hear(
         &mut self,
         alloc: Global,
@@ -129,7 +128,7 @@ impl<A: App> LentTxn<A> {
         turn
     }
 
-    /// Takes the ask of the function that is to begin or to continue.
+    /// Takes the step of the function that must begin or continue.
     pub(crate) fn ran(&mut self, alloc: Global, ask: Ask) -> Option<Turn<PortRequest, Value>>
         requires runs { NeedsFunction self.old.core.call.need }
         requires none { self.old.core.pinning ≡ None }
@@ -148,7 +147,7 @@ impl<A: App> LentTxn<A> {
         turn
     }
 
-    /// Gives the open call up, if one is. No pin is under way.
+    /// Cancels the open call, if there is one. No pin is being made.
     pub(crate) fn give_up(&mut self)
         requires { self.old.core.pinning ≡ None }
         ensures idle { IsIdle self.new.core }
@@ -160,8 +159,8 @@ impl<A: App> LentTxn<A> {
         self.told = self.told.idled();
     }
 
-    /// Ends the transaction, and returns what explains its answers, and the pins to be given back, by their stamps. It does not
-    /// allocate.
+    /// Ends the transaction, and returns its receipt, and the stamps of the pins that must be returned. Does
+    /// not allocate.
     pub(crate) fn finish(self) -> (Receipt, Vec<Stamp>)
         requires { IsIdle self.core }
         ensures answers { result.0.answers.items ≡ self.core.recorded }
@@ -179,7 +178,8 @@ impl<A: App> LentTxn<A> {
         core.finish()
     }
 
-    /// Gives the transaction up, in the middle of a call too, and returns what is left to be done. It does not allocate.
+    /// Cancels the transaction, also in the middle of a call, and returns the remaining work. Does not
+    /// allocate.
     pub(crate) fn cancel(self) -> Left
         ensures give_back { result.give_back.items ≡ self.core.taken }
         ensures unpin { result.unpin ≡ left_pin self.core.pinning }

@@ -14,18 +14,18 @@ use txc_ports::Kept;
 use txc_shared::{Advanced, Insertion, NodeError, StoredNode};
 use txc_tags::TagSet;
 
-/// What a node holds in all, and how many of its entries trims have dropped.
+/// Number and size of a node's entries, and how many of them trims have dropped.
 #[derive(Clone, Copy, Debug, PartialEq, Eq)]
 pub struct NodeTotals {
-    /// How many entries it holds.
+    /// The number of entries.
     pub entries: usize,
-    /// How many bytes their values have in all.
+    /// The number of bytes of their values in all.
     pub bytes: usize,
-    /// How many entries its trims have dropped.
+    /// The number of entries that trims have dropped.
     pub trimmed: u128,
 }
 
-/// Returns the totals of a node that is whole.
+/// Returns the totals of a node that is not broken.
 pub(crate) fn totals<A: App>(node: &StoredNode<A>) -> NodeTotals
     requires { node.now.broken ≡ false }
     ensures { result ≡ totals_of node.now }
@@ -40,7 +40,7 @@ pub(crate) fn totals<A: App>(node: &StoredNode<A>) -> NodeTotals
     }
 }
 
-// What a node keeps that made the insertion.
+// Returns the result of a node's insertion.
 fn kept_as(insertion: Insertion) -> Kept
     ensures { result ≡ kept_as insertion }
 {
@@ -50,7 +50,7 @@ fn kept_as(insertion: Insertion) -> Kept
     }
 }
 
-// Returns whether a value of so many bytes alone is within the budget.
+// Returns `true` if a value of `len` bytes is within the budget by itself.
 fn fits_alone(budget: Option<usize>, len: usize) -> bool
     ensures { result ≡ fits_alone budget len }
 {
@@ -60,8 +60,7 @@ fn fits_alone(budget: Option<usize>, len: usize) -> bool
     }
 }
 
-// Makes room for a value of so many bytes: trims the node if its own values are not within what the budget leaves beside
-// that one.
+// Makes room for a value: trims the node if its own values are not within the rest of the budget.
 fn make_room<A: App>(
     alloc: Global,
     node: &mut StoredNode<A>,
@@ -87,8 +86,8 @@ fn make_room<A: App>(
     Ok(())
 }
 
-/// Gives the node an entry to keep, which is true in what the front shows. The node makes room for it within the budget. A
-/// node that refuses keeps nothing, and no node keeps a value that alone is over the budget.
+/// Gives the node an entry to store, which is true in the front's history. The node makes room for it within
+/// the budget. A node that fails stores nothing, and no node stores a value over the budget by itself.
 pub(crate) fn insert<A: App>(
     alloc: Global,
     node: &mut StoredNode<A>,
@@ -118,7 +117,7 @@ pub(crate) fn insert<A: App>(
     }
 }
 
-/// Has the node take the next event of the history that the front shows, which has these tags, and says whether it did.
+/// Lets the node take the next event of the front's history, which has these tags. Returns `true` if it did.
 pub(crate) fn take_event<A: App>(
     alloc: Global,
     node: &mut StoredNode<A>,

@@ -8,9 +8,11 @@ ghost use Rattle.txc_stream.specs.Names.{HasRow};
 ghost use Rattle.txc_stream.specs.declared.row.TheConstants.{MAX_CAPACITY as MAX_ROW};
 ghost use Rattle.txc_shared.specs.Nodes.{start_of};
 ghost use Rattle.txc_caller.specs.Ports.{CallerFindTransition, AreLetGo, AreGivenBack, HasGrownDatabase, HasEventRoom, HasNoEventFor, GoesOnByEvents, IsLetGo, IsNewDatabase, StaysBehind};
+ghost use Rattle.txc_caller.specs.Pinning.{HasNotPinned, HasPinnedNewest};
 
 use crate::call_ports::CallPorts;
 use crate::nodes;
+use crate::pin_error::PinError;
 use std::alloc::{AllocError, Global};
 use std::marker::Model;
 use txc_app::App;
@@ -24,8 +26,8 @@ use txc_stamp::Stamp;
 use txc_stream::Pen;
 use txc_validity::Found;
 
-/// A database, its pincushion, and one node that takes its events. None has a lock. The node's values are within the budget, if
-/// there is one.
+/// A database, its pincushion, and one node that takes its events. None has a lock. The node's values are
+/// within the budget, if there is one.
 #[derive(Drop)]
 pub struct PlainPorts<A: App> {
     pub(crate) database: DbCore,
@@ -50,8 +52,8 @@ impl<A: App> Model for PlainPorts<A> {
     }) };
 }
 
-// An empty database over that store of rows, with room for so many events, or that stores none. As many versions may match as can
-// be allowed.
+// Makes an empty database over this kind of store, with room for `room` events, or, for `None`, without stored
+// events. As many versions may match a query as a store can allow.
 fn empty_database(alloc: Global, rows: RowStore, room: Option<usize>) -> Result<DbCore, DbError>
     requires { IfSome room (λ events. (1 ≤ events) × (events ≤ MAX_ROW)) }
     ensures room { IfOk result (λ d. HasEventRoom room d.events) }
@@ -66,7 +68,7 @@ fn empty_database(alloc: Global, rows: RowStore, room: Option<usize>) -> Result<
     Ok(database)
 }
 
-/// Gives the pins back, one user of each. It takes no memory.
+/// Removes one user of each of the pins. Does not allocate.
 pub(crate) fn give_back(cushion: &mut CushionCore, stamps: &[Stamp])
     ensures after { AreGivenBack stamps.now cushion.old cushion.new }
     ensures events { cushion.new.events ≡ cushion.old.events }
@@ -77,7 +79,7 @@ pub(crate) fn give_back(cushion: &mut CushionCore, stamps: &[Stamp])
     }
 }
 
-/// Takes the hold of a pin away that was not added, if there is one. It takes no memory.
+/// Removes the hold of a pin that was not added, if there is one. Does not allocate.
 pub(crate) fn let_go(database: &mut DbCore, unpin: Option<Stamp>)
     ensures unpinned { IsLetGo unpin database.old database.new }
     ensures history { database.new.history ≡ database.old.history }
@@ -92,7 +94,7 @@ pub(crate) fn let_go(database: &mut DbCore, unpin: Option<Stamp>)
     }
 }
 
-/// Takes a hold of each of the stamps away.
+/// Removes a hold of each of the stamps.
 pub(crate) fn let_each_go(database: &mut DbCore, stamps: &[Stamp])
     ensures unpinned { AreLetGo stamps.now database.old database.new }
     ensures events { database.new.events ≡ database.old.events }
@@ -102,7 +104,7 @@ pub(crate) fn let_each_go(database: &mut DbCore, stamps: &[Stamp])
     }
 }
 
-// What the database finds for the query at the stamp, with a front of the whole history.
+// Returns the database's answer to the query at the stamp, with a front of the whole history.
 fn find(
     alloc: Global,
     database: &mut DbCore,
@@ -141,7 +143,7 @@ fn around<A: App>(
 }
 
 impl<A: App> PlainPorts<A> {
-    // Has the node take the next event, and says whether it took one. The front shows them all.
+    // Lets the node take the next event, and returns `true` if it took one. The front shows all events.
     fn take_event(&mut self, alloc: Global, front: &HistoryFront) -> bool
         requires { front.now ≡ front_of self.old.database }
         ensures node { GoesOnByEvents self.old.node self.new.node }
@@ -153,7 +155,7 @@ impl<A: App> PlainPorts<A> {
         nodes::take_event(alloc, &mut self.node, front, tags)
     }
 
-    /// Has the node take the events that it has not taken yet, and says whether it took them all.
+    /// Lets the node take the events that it has not taken yet. Returns `true` if it took all.
     pub(crate) fn take_events(&mut self, alloc: Global) -> bool
         ensures node { GoesOnByEvents self.old.node self.new.node }
         ensures all { result ≡ true → HasNoEventFor self.new.database self.new.node }
@@ -174,8 +176,30 @@ impl<A: App> PlainPorts<A> {
         self.database.tags_after(self.node.processed()).is_none()
     }
 
-    /// An empty database over that store of rows, with room for so many events, or that stores none where no number is given; an
-    /// empty pincushion and an empty node, whose values are to stay within the budget.
+    /// Pins the newest state for no transaction. If the pincushion cannot add the pin, its hold is removed.
+    pub(crate) fn pin(&mut self, alloc: Global, moment: u64) -> Result<Stamp, PinError>
+        ensures pinned { IfOk result (λ stamp. HasPinnedNewest moment self.old stamp self.new) }
+        ensures refused { IfErr result (λ error. HasNotPinned moment self.old error self.new) }
+        ensures grown { HasGrownDatabase self.old.database self.new.database }
+    {
+        let pinned = match self.database.pin(alloc, moment, Stamp::ZERO) {
+            Ok(pinned) => pinned,
+            Err(error) => return Err(PinError::Database(error)),
+        };
+        match self.cushion.add(&pinned) {
+            Ok(()) => {
+                give_back(&mut self.cushion, &[pinned.stamp]);
+                Ok(pinned.stamp)
+            }
+            Err(error) => {
+                let_go(&mut self.database, Some(pinned.stamp));
+                Err(PinError::Pincushion(error))
+            }
+        }
+    }
+
+    /// Makes an empty database over that store of rows, an empty pincushion and an empty node. The database has
+    /// room for `room` events, or, if that is `None`, stores none. The node's values stay within the budget.
     pub(crate) fn new(
         alloc: Global,
         rows: RowStore,
@@ -226,7 +250,7 @@ impl<A: App> CallPorts<A> for PlainPorts<A> {
                 PortReply::AddPin(pinned, added)
             }
             PortRequest::Unpin(stamp) => PortReply::Unpin(self.database.unpin(stamp)),
-            // A node that refuses has nothing.
+            // A node that fails has no entry.
             PortRequest::Lookup { key, lo, hi, .. } => {
                 PortReply::Lookup(self.node.lookup(alloc, 0, &key, lo, hi).unwrap_or(None))
             }

@@ -1,22 +1,23 @@
-//! The ports of a caller, whose types nothing above sees.
+//! The ports of a caller, whose types no crate above sees.
 ghost use Rattle.std.specs.Prelude.{◌≡◌, ◌≤◌, ◌∷◌, ◌↔◌, [], IfErr, IfOk, IsOk, OnErr, OnOk, length, true, false};
-ghost use Rattle.txc_cushion.specs.Cushion.{retired};
+ghost use Rattle.txc_cushion.specs.Cushion.{retired, after_fresh};
 ghost use Rattle.txc_db.specs.Calls.{matching_of, IsAnswerable, IsBase, IsCommitRefused, IsCommittable, IsHoldable, IsHoldRefused, IsLeft, IsQueryRefused};
 ghost use Rattle.txc_db.specs.DatabaseValue.{after_commit, after_hold, newest, next_horizon};
 ghost use Rattle.txc_db.specs.History.{state_at};
 ghost use Rattle.txc_db.specs.Steps.{IsBaseRefused};
 ghost use Rattle.txc_rows.specs.RowTags.{query_tag};
 ghost use Rattle.txc_validity.specs.Answers.{IsAnswer};
-ghost use Rattle.txc_cushion.specs.Cushion.{after_fresh};
 ghost use Rattle.txc_txn.specs.Core.{value_of};
 ghost use Rattle.txc_caller.specs.Reading.{IsBegunCore};
 ghost use Rattle.txc_caller.specs.Budgets.{IsInBudget};
-ghost use Rattle.txc_caller.specs.Ports.{AreGivenBack, totals_of, CallerSweepTransition, CallerTrimTransition, GoesOnByEvents, HasGrownDatabase, HasNoEventFor, HasRetired, HasVacuumedPorts, IsKeepRefused, IsLetGo, MayHaveTaken, StaysBehind};
+ghost use Rattle.txc_caller.specs.Ports.{AreGivenBack, totals_of, CallerSweepTransition, CallerTrimTransition, GoesOnByEvents, HasGrownDatabase, HasNoEventFor, HasRetired, HasVacuumedPorts, IsKeepRefused, MayHaveTaken, StaysBehind};
+ghost use Rattle.txc_caller.specs.Pinning.{HasNotPinned, HasPinnedNewest};
 
 use crate::call_ports::CallPorts;
 use crate::caller::begun;
 use crate::nodes::{self, NodeTotals};
-use crate::plain_ports::{PlainPorts, give_back, let_each_go};
+use crate::pin_error::PinError;
+use crate::plain_ports::{PlainPorts, give_back, let_each_go, let_go};
 use crate::ports_slot::PortsSlot;
 use std::alloc::{AllocError, Global};
 use std::marker::Model;
@@ -30,11 +31,11 @@ use txc_tags::TagSet;
 use txc_txn::TxnCore;
 use txc_validity::Found;
 
-/// A database, its pincushion, and one node that takes its events, behind a pointer. A method takes them out, calls one of
-/// theirs, and puts them back.
+/// A database, its pincushion, and one node that takes its events, behind a pointer. A method takes them out,
+/// calls one of their methods, and puts them back.
 pub(crate) struct Ports<A: App> {
-    pub(crate) slot: PortsSlot<A>,
-    pub(crate) alloc: Global,
+    slot: PortsSlot<A>,
+    alloc: Global,
 }
 
 impl<A: App> Drop for Ports<A> {
@@ -55,7 +56,7 @@ impl<A: App> Model for Ports<A> {
 }
 
 impl<A: App> Ports<A> {
-    /// These ports, behind a pointer.
+    /// Puts these ports behind a pointer.
     pub(crate) fn of(alloc: Global, plain: Box<PlainPorts<A>, Global>) -> Ports<A>
         ensures { result ≡ plain.value }
     {
@@ -65,7 +66,7 @@ impl<A: App> Ports<A> {
         }
     }
 
-    /// The ports, in sight.
+    /// Returns the ports.
     pub(crate) fn into_plain(self) -> Box<PlainPorts<A>, Global>
         ensures { result.value ≡ self }
     {
@@ -73,7 +74,7 @@ impl<A: App> Ports<A> {
         slot.into_ports()
     }
 
-    /// Has the node take the events that it has not taken yet, and says whether it took them all.
+    /// Lets the node take the events that it has not taken yet. Returns `true` if it took all.
     pub(crate) fn take_events(&mut self, alloc: Global) -> bool
         ensures node { GoesOnByEvents self.old.node self.new.node }
         ensures all { result ≡ true → HasNoEventFor self.new.database self.new.node }
@@ -86,7 +87,7 @@ impl<A: App> Ports<A> {
         has_all
     }
 
-    /// Takes a hold of the newest stamp, and returns it.
+    /// Holds the newest stamp, and returns it.
     pub(crate) fn hold(&mut self, alloc: Global) -> Result<Stamp, DbError>
         ensures after { OnOk result (self.new ≡ record self.old { database = after_hold self.old.database }) }
         ensures answer { IfOk result (λ stamp. stamp ≡ newest self.old.database) }
@@ -101,7 +102,7 @@ impl<A: App> Ports<A> {
         held
     }
 
-    /// The newest stamp, where a commit may have that base.
+    /// Returns the newest stamp if a commit may have that base. Fails otherwise.
     pub(crate) fn check_base(&mut self, base: Stamp) -> Result<Stamp, DbError>
         ensures same { self.new ≡ self.old }
         ensures only_if { IsOk result ↔ IsBase self.old.database base }
@@ -114,7 +115,7 @@ impl<A: App> Ports<A> {
         checked
     }
 
-    /// The answer of the query at a stamp, with the query's tag.
+    /// Returns the answer of the query at a stamp, with the query's tag.
     pub(crate) fn query(
         &mut self,
         alloc: Global,
@@ -135,7 +136,8 @@ impl<A: App> Ports<A> {
         found
     }
 
-    /// Commits the changes, where no event after the base has tags that match those read. The node then takes the events.
+    /// Commits the changes if no event after the base has a tag that matches those read. The node then takes
+    /// the events.
     pub(crate) fn commit(
         &mut self,
         alloc: Global,
@@ -162,7 +164,8 @@ impl<A: App> Ports<A> {
         Ok(stamp)
     }
 
-    /// A core with the pins that the pincushion hands out for its bounds. Out of memory, they are given back.
+    /// Makes a core with the pins that the pincushion issues for its bounds. If memory cannot be allocated,
+    /// they are returned.
     pub(crate) fn begin(
         &mut self,
         alloc: Global,
@@ -182,7 +185,7 @@ impl<A: App> Ports<A> {
         core
     }
 
-    /// Gives the pins back, one user of each. It takes no memory.
+    /// Removes one user of each of the pins. Does not allocate.
     pub(crate) fn give_back(&mut self, stamps: &[Stamp])
         ensures after { AreGivenBack stamps.now self.old.cushion self.new.cushion }
         ensures same { self.new ≡ record self.old { cushion = self.new.cushion } }
@@ -192,8 +195,20 @@ impl<A: App> Ports<A> {
         self.slot.put(plain);
     }
 
-    /// Retires the pins that no transaction uses and that are more than `age` before `now`: takes them out, and their
-    /// holds away. It answers how many they were.
+    /// Pins the newest state for no transaction.
+    pub(crate) fn pin(&mut self, alloc: Global, moment: u64) -> Result<Stamp, PinError>
+        ensures pinned { IfOk result (λ stamp. HasPinnedNewest moment self.old stamp self.new) }
+        ensures refused { IfErr result (λ error. HasNotPinned moment self.old error self.new) }
+        ensures grown { HasGrownDatabase self.old.database self.new.database }
+    {
+        let mut plain = self.slot.take(self.alloc);
+        let pinned = plain.pin(alloc, moment);
+        self.slot.put(plain);
+        pinned
+    }
+
+    /// Retires the pins that no transaction uses and that are more than `age` before `now`: removes them and
+    /// their holds. Returns how many.
     pub(crate) fn retire(&mut self, alloc: Global, now: u64, age: u64) -> Result<usize, AllocError>
         ensures retired { OnOk result (HasRetired now age self.old self.new) }
         ensures answer { IfOk result (λ count. count ≡ length (retired self.old.cushion now age)) }
@@ -214,8 +229,8 @@ impl<A: App> Ports<A> {
         }
     }
 
-    /// Has the node take the events. Then makes the horizon the least stamp that is held, or the newest where none is, and
-    /// drops what only stamps before it need.
+    /// Lets the node take the events. Then moves the horizon to the least held stamp, or to the newest if none
+    /// is held, and drops the versions and tags that only earlier stamps need.
     pub(crate) fn vacuum(&mut self, alloc: Global) -> Result<Stamp, DbError>
         ensures after { OnOk result (HasVacuumedPorts self.old self.new) }
         ensures node { GoesOnByEvents self.old.node self.new.node }
@@ -233,7 +248,7 @@ impl<A: App> Ports<A> {
         horizon
     }
 
-    /// Has the node drop the entries that end at the horizon or before it, and counts them.
+    /// Lets the node drop the entries whose span ends at the horizon or before it. Returns how many.
     pub(crate) fn sweep(&mut self, alloc: Global, horizon: Stamp) -> Result<usize, NodeError>
         ensures leads { CallerSweepTransition horizon self.old.node self.new.node result }
         ensures same { self.new ≡ record self.old { node = self.new.node } }
@@ -244,8 +259,8 @@ impl<A: App> Ports<A> {
         swept
     }
 
-    /// Has the node keep the longest prefix of its entries whose values have at most `most` bytes in all. Returns how many
-    /// entries it dropped.
+    /// Lets the node keep the longest prefix of its entries whose values have at most `most` bytes in all.
+    /// Returns how many entries it dropped.
     pub(crate) fn trim(&mut self, alloc: Global, most: usize) -> Result<usize, NodeError>
         ensures leads { CallerTrimTransition most self.old.node self.new.node result }
         ensures same { self.new ≡ record self.old { node = self.new.node } }
@@ -256,7 +271,7 @@ impl<A: App> Ports<A> {
         trimmed
     }
 
-    /// Returns what the node holds in all, and how many of its entries trims have dropped.
+    /// Returns the number and size of the node's entries, and how many of them trims have dropped.
     pub(crate) fn totals(&mut self) -> NodeTotals
         ensures answer { result ≡ totals_of self.old.node }
         ensures within { IsInBudget self.old.budget result.bytes }

@@ -11,7 +11,8 @@ use txc_parts::Parts;
 
 /// A pointer to ports, or to none.
 ///
-/// Each function above carries the layout of every type that its own types reach, so the pointer is to a type that has none.
+/// Each function above has the layout of every type that its own types reach, so the pointer is to a type that
+/// has none.
 pub(crate) struct PortsSlot<A: App> {
     ptr: *mut A,
     alloc: Global,
@@ -20,7 +21,7 @@ pub(crate) struct PortsSlot<A: App> {
 }
 
 impl<A: App> Drop for PortsSlot<A> {
-    /// A slot that is full is not let go: its ports would never be freed.
+    /// A full slot must not be dropped: its ports would never be freed.
     fn drop(self)
         requires { self.is_full ≡ false }
     {
@@ -69,14 +70,14 @@ impl<A: App> PortsSlot<A> {
         }
     }
 
-    /// The slot of these ports.
+    /// Makes the slot of these ports.
     pub(crate) fn of(ports: Box<PlainPorts<A>, Global>) -> PortsSlot<A>
         ensures { (result.is_full ≡ true) × (result.value ≡ ports.value) }
     {
         PortsSlot::of_parts(Parts::of(ports))
     }
 
-    /// The ports that are there.
+    /// Returns the ports.
     pub(crate) fn into_ports(self) -> Box<PlainPorts<A>, Global>
         requires { self.is_full ≡ true }
         ensures { result.value ≡ self.value }
@@ -84,7 +85,7 @@ impl<A: App> PortsSlot<A> {
         self.into_parts().into_box()
     }
 
-    /// Takes the ports out that are there.
+    /// Takes the ports out, and leaves the slot empty.
     pub(crate) fn take(&mut self, alloc: Global) -> Box<PlainPorts<A>, Global>
         requires { self.old.is_full ≡ true }
         ensures ports { result.value ≡ self.old.value }
@@ -93,7 +94,7 @@ impl<A: App> PortsSlot<A> {
         mem::replace(self, PortsSlot::empty(alloc)).into_ports()
     }
 
-    /// Puts ports in where there are none.
+    /// Puts ports into an empty slot.
     pub(crate) fn put(&mut self, ports: Box<PlainPorts<A>, Global>)
         requires { self.old.is_full ≡ false }
         ensures { (self.new.is_full ≡ true) × (self.new.value ≡ ports.value) }
@@ -102,5 +103,5 @@ impl<A: App> PortsSlot<A> {
     }
 }
 
-// What the slot points to may go to another thread, and so may the slot.
+// Ports may go to another thread, and so may the slot that points to them.
 unsafe impl<A: App> Send for PortsSlot<A> {}

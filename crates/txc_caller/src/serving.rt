@@ -1,4 +1,4 @@
-//! The requests of an act: they are made until a function is to begin or to continue, or the call has ended.
+//! The requests of an act: they are made until a function must begin or continue, or the call has ended.
 ghost use Rattle.std.specs.Prelude.{◌≡◌, ◌≢◌, true, None, Some};
 ghost use Rattle.txc_tags.specs.Keys.{Call};
 ghost use Rattle.txc_call.specs.declared.need.Need.{Need};
@@ -16,10 +16,10 @@ use txc_app::App;
 use txc_node::Value;
 use txc_ports::{PortReply, PortRequest, Turn};
 
-/// What a transaction does next: a turn; or none if a function is to begin or to continue first.
+/// The next step of a transaction: a turn, or `None` if a function must begin or continue first.
 pub(crate) type HandTurn = Option<Turn<PortRequest, Value>>;
 
-// Whether the request is about the pin of the present.
+// Returns `true` if the request is about the pin of the present.
 fn is_of_pin(request: &PortRequest) -> bool
     ensures { result ≡ is_of_pin request.now }
 {
@@ -52,7 +52,7 @@ fn asked<A: App, P: CallPorts<A>>(
     ports.ask(alloc, txn.core().seen(), request)
 }
 
-// Makes a request about the pin of the present, if the turn is one, and goes on. Any other turn stays.
+// Makes a request about the pin of the present, if the turn is one, and continues. Any other turn stays.
 fn pass_pin<A: App, P: CallPorts<A>>(
     alloc: Global,
     ports: &mut P,
@@ -78,8 +78,8 @@ fn pass_pin<A: App, P: CallPorts<A>>(
     }
 }
 
-// Makes the requests about the pin of the present, if the turn is one: a pin, the addition of it, and, if that is refused, the end
-// of its hold. No other comes after them.
+// Makes the requests about the pin of the present, if the turn is one: a pin, its addition, and, if that fails,
+// the removal of its hold. No other request about it follows.
 fn pass_pins<A: App, P: CallPorts<A>>(
     alloc: Global,
     ports: &mut P,
@@ -98,7 +98,7 @@ fn pass_pins<A: App, P: CallPorts<A>>(
     pass_pin(alloc, ports, txn, second)
 }
 
-// Makes the request, if the turn is one, and goes on. Any other turn stays. Nothing more is asked.
+// Makes the request, if the turn is one, and continues. Any other turn stays. No further request follows.
 fn pass_last<A: App, P: CallPorts<A>>(
     alloc: Global,
     ports: &mut P,
@@ -125,7 +125,8 @@ fn pass_last<A: App, P: CallPorts<A>>(
     }
 }
 
-/// Makes the requests of an act. A pin of the present comes first, if one is asked; then there is at most one more.
+/// Makes the requests of an act: first those of a pin of the present, if it needs one, and then at most one
+/// more.
 pub(crate) fn serve<A: App, P: CallPorts<A>>(
     alloc: Global,
     ports: &mut P,

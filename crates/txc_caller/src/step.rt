@@ -10,49 +10,49 @@ use txc_ports::TxnError;
 use txc_rw::Given;
 use txc_stamp::Stamp;
 
-/// What the caller does next.
+/// The next step of the caller.
 #[derive(Debug, Drop)]
 pub enum Step {
-    /// It computes the function of the call that it asked for.
+    /// It must compute the function of the call that it requested.
     Compute,
-    /// It goes on computing: the function has its answer.
+    /// It continues to compute the function, which has its answer.
     Answered,
     /// It has the value of its outermost call.
     Value(Value),
 }
 
-/// Why the caller was refused.
+/// Errors of an act.
 #[derive(Clone, Copy, Debug, PartialEq, Eq, Error)]
 pub enum CallerError {
-    /// The call was refused, and has ended; the transaction is open.
+    /// The call failed and has ended; the transaction stays open.
     #[error("{0}")]
     Txn(TxnError),
-    /// No function is computed.
-    #[error("no function is computed")]
+    /// No function is being computed.
+    #[error("no function is being computed")]
     NoFunction,
 }
 
-/// What a transaction that wrote gave.
+/// Result of a committed read-write transaction.
 #[derive(Drop)]
 pub struct Written {
-    /// The newest stamp that the commit left.
+    /// The newest stamp after the commit.
     pub stamp: Stamp,
-    /// What the transaction was answered, in order.
+    /// The results that the transaction has read, in order.
     pub answers: Vec<Given>,
 }
 
-/// Why a transaction that writes was not committed.
+/// Errors of committing a read-write transaction.
 #[derive(Clone, Copy, Debug, PartialEq, Eq, Error)]
 pub enum WriteError {
-    /// A function is computed.
-    #[error("a call is open")]
+    /// A function is being computed.
+    #[error("a call is open, which must be finished or cancelled first")]
     MidCall,
-    /// The database refused.
+    /// The database failed.
     #[error("{0}")]
     Database(DbError),
 }
 
-// Whether a function is to begin.
+// Returns `true` if a function must begin.
 fn is_begin(need: &Need) -> bool
     ensures { result ≡ is_begin need.now }
 {
@@ -67,7 +67,7 @@ fn is_begin(need: &Need) -> bool
 }
 
 impl Step {
-    /// Returns what the caller does next for a call that needs a function.
+    /// Returns the caller's next step for a call that needs a function.
     pub(crate) fn next(machine: &CallMachine) -> Step
         requires { NeedsFunction machine.now.need }
         ensures { IsNextStep machine.now result }
@@ -83,7 +83,7 @@ impl Step {
     }
 }
 
-/// Returns what the caller does next for a call that has ended so.
+/// Returns the caller's next step after a call has ended with this value or error.
 pub(crate) fn ended(outcome: Result<Value, TxnError>) -> Result<Step, CallerError>
     ensures { result ≡ ended_step outcome }
 {

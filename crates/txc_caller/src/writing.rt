@@ -1,4 +1,4 @@
-//! The acts of a transaction that writes: its calls use no node, and each query is asked at its base.
+//! The acts of a read-write transaction: its calls use no node, and each query reads at its base.
 ghost use Rattle.std.specs.Prelude.{◌≡◌, ◌≤◌, ◌++◌, ◌∷◌, [], List, IfErr, IfOk, None, OnErr, OnOk, Some, false};
 ghost use Rattle.txc_tags.specs.Keys.{Call};
 ghost use Rattle.txc_tags.specs.declared.key.TheConstants.{LAST_FUNCTION};
@@ -35,7 +35,7 @@ use txc_stamp::Stamp;
 use txc_told::Told;
 use txc_validity::Found;
 
-// Leaves the objects as they are, unless the call ended without a value: then none runs.
+// Leaves the objects as they are, unless the call ended without a value: then all become idle.
 fn settle(turn: &Option<Turn<Query, Value>>, told: &mut Told)
     ensures left { RwObjectsLeft told.old.objects turn.now told.new.objects }
     ensures functions { numbers_of told.new.objects ≡ numbers_of told.old.objects }
@@ -59,7 +59,7 @@ fn find<A: App>(
     ports.query(alloc, query, base)
 }
 
-/// Reads the rows of a query, by no function, at the base. The query counts as read.
+/// Reads the rows of a query of the transaction itself, at its base. The query counts as read.
 pub(crate) fn read<A: App>(
     alloc: Global,
     ports: &mut Ports<A>,
@@ -86,7 +86,7 @@ pub(crate) fn read<A: App>(
     core.answer(alloc, found)
 }
 
-// Asks the database the query that the turn asks, if it asks one, and goes on with the reply.
+// Makes the query at the database, if the turn is one, and continues with the reply.
 fn lead<A: App>(
     alloc: Global,
     ports: &mut Ports<A>,
@@ -118,7 +118,7 @@ fn lead<A: App>(
     }
 }
 
-// Returns what the caller does next for a call that needs a function. A held answer is right at the base.
+// Returns the caller's next step for a call that needs a function. A held answer is correct at the base.
 fn next_step(core: &RwCore) -> Step
     requires { NeedsFunction core.now.call.need }
     ensures step { IsNextStep core.now.call result }
@@ -134,7 +134,7 @@ fn next_step(core: &RwCore) -> Step
     }
 }
 
-// Returns what the caller does next after a turn that asks no query.
+// Returns the caller's next step after a turn that makes no query.
 fn step_after(core: &RwCore, turn: Option<Turn<Query, Value>>) -> Result<Step, CallerError>
     requires turn { IsRwHandTurn core.now turn }
     requires heard { IsHeard turn }
@@ -152,7 +152,7 @@ fn step_after(core: &RwCore, turn: Option<Turn<Query, Value>>) -> Result<Step, C
     }
 }
 
-/// Takes the ask of the function that is to begin or to continue. A query is asked at once.
+/// Takes the step of the function that must begin or continue. A query is made at once.
 pub(crate) fn act<A: App>(
     alloc: Global,
     ports: &mut Ports<A>,

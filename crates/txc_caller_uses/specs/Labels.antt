@@ -1,4 +1,4 @@
--- The functions of a caller: each gives the label of a row.
+-- The functions of a caller: the value of each is the label of a row.
 use Rattle.std.specs.Prelude.{◌≡◌, ℕ, ◌==◌, if◌then◌else◌, List, [], ◌∷◌, Option, Some, None}
 use Rattle.txc_tags.specs.Keys.{Call}
 use Rattle.txc_rows.specs.Values.{RowValue}
@@ -15,7 +15,7 @@ use Rattle.txc_call.specs.Calling.{Calling}
 use Rattle.txc_txn.specs.declared.receipt.Receipt.{Receipt}
 use Rattle.txc_caller.specs.Telling.{computed_calls, told_answer, top_call}
 
--- the rows that a function was told
+-- the rows of an answer to a function
 abbrev pub rows_told : Answer → List RowValue
 rows_told (Rows rows) = rows
 rows_told (Value bytes) = []
@@ -30,8 +30,9 @@ abbrev pub first_group : List RowValue → ℕ
 first_group [] = 0
 first_group (row ∷ rows) = row.group
 
--- Of the id 0 a function gives no bytes at once. Of any other it asks for the row in table 1. If there is none, or one of group 0,
--- it gives the body of that. Otherwise it asks for the row whose id is the group, and gives the body of that one.
+-- The value of the id 0 is empty, without an ask. For any other id a function asks for the row in table 1. If
+-- there is none, or its group is 0, the value is its body, if any. Otherwise it asks for the row whose id is
+-- the group, and its value is the body of that one.
 abbrev pub asks_label : List ℕ → List Answer → Option Ask
 asks_label (id ∷ []) [] = if id == 0 then Some (Done []) else Some (Query (ById 1 id))
 asks_label (id ∷ []) (told ∷ []) = if first_group (rows_told told) == 0 then Some (Done (first_body (rows_told told)))
@@ -57,7 +58,7 @@ label_of s rows = if first_group rows == 0 then first_body rows else first_body 
 abbrev pub label_in : State → ℕ → List ℕ
 label_in s id = if id == 0 then [] else label_of s (answer (ById 1 id) s)
 
--- the call of the label is open, and its function is to begin
+-- the call of the label is open, and its function must begin
 pub record BeginsLabel (id : ℕ) (call : Calling) : Type 0 where
   pub top : top_call call ≡ Some (label_call id)
   pub only : computed_calls call ≡ label_call id ∷ []

@@ -10,7 +10,7 @@ use txc_app::{Answer, App, Limits};
 use txc_rows::{Query, Row};
 use txc_tags::{Key, Table};
 
-/// The application of a caller whose functions each give the label of a row.
+/// The application of a caller whose functions each return the label of a row.
 pub struct Labels;
 
 impl App for Labels {
@@ -23,7 +23,7 @@ impl App for Labels {
     }
 }
 
-/// The table of the rows.
+/// Returns the table of the rows.
 pub(crate) fn table() -> Table
     ensures { result ≡ 1 }
 {
@@ -33,7 +33,7 @@ pub(crate) fn table() -> Table
     table
 }
 
-/// The call of the label of a row.
+/// Returns the call of the label of a row.
 pub(crate) fn key(id: u32) -> Key
     ensures { result ≡ label_call id }
 {
@@ -43,7 +43,7 @@ pub(crate) fn key(id: u32) -> Key
     key
 }
 
-/// The id of the row whose label the function of this call gives.
+/// Returns the id of the row whose label the function of this call returns.
 pub(crate) fn argument(key: Option<&Key>) -> Result<u32>
     ensures { IfOk result (λ id. ForSome key.entry (λ k. k.now.args ≡ id ∷ [])) }
 {
@@ -56,7 +56,7 @@ pub(crate) fn argument(key: Option<&Key>) -> Result<u32>
     Ok(*id)
 }
 
-/// The query for a row.
+/// Returns the query for a row.
 pub(crate) fn query(id: u32) -> Query
     ensures { result ≡ ById 1 id }
 {
@@ -72,7 +72,7 @@ fn rows(answer: &Answer) -> &[Row]
     }
 }
 
-/// The body of the first row of an answer; no bytes if it has none.
+/// Returns the body of the first row of an answer, or no bytes if it has none.
 pub(crate) fn body(alloc: Global, answer: &Answer) -> Result<Vec<u8>, AllocError>
     ensures { IfOk result (λ bytes. bytes.items ≡ first_body (rows_told answer.now)) }
 {
@@ -82,7 +82,7 @@ pub(crate) fn body(alloc: Global, answer: &Answer) -> Result<Vec<u8>, AllocError
     }
 }
 
-/// The group of the first row of an answer; 0 if it has none.
+/// Returns the group of the first row of an answer, or 0 if it has none.
 pub(crate) fn group(answer: &Answer) -> u32
     ensures { result ≡ first_group (rows_told answer.now) }
 {

@@ -1,8 +1,8 @@
-//! Calls of the library of transactions whose functions the caller computes, at the types of a program, so that what they require
-//! can be met. Nothing runs them.
+//! Calls of the library of transactions whose functions the caller computes, at the types of a program, to show
+//! that their preconditions can be met. Nothing runs them.
 //!
-//! The function branches on its argument and on a row that it was told. It is computed in a transaction that only reads, whose
-//! receipt says what was shown, and in one that writes.
+//! The function branches on its argument and on a row that it read. It is computed in a read-only transaction,
+//! whose receipt states its value, and in a read-write one.
 #![tactic(auto)]
 
 mod labels;

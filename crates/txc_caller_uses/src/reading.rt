@@ -1,4 +1,4 @@
-//! The label of a row, in a transaction that only reads.
+//! The label of a row, in a read-only transaction.
 ghost use Rattle.std.specs.Prelude.{◌≡◌, ◌++◌, ◌∷◌, [], IfOk, None};
 ghost use Rattle.txc_caller.specs.Reading.{recorded_as, IsOf};
 ghost use Rattle.txc_caller.specs.Telling.{HaveAllFunctions};
@@ -20,7 +20,7 @@ pub struct Shown {
     pub receipt: Receipt,
 }
 
-/// The value with which the outermost call has ended.
+/// Returns the value with which the outermost call has ended.
 pub(crate) fn value(step: Step) -> Result<Value>
     ensures { IfOk result (λ value. step ≡ ValueStep value) }
 {
@@ -91,7 +91,7 @@ fn called(
     }
 }
 
-/// Shows the label of a row, as it is in the one state that the receipt names.
+/// Returns the label of a row, as it is in the single state that the receipt names.
 pub fn read(alloc: Global, caller: &mut Caller<Labels>, bounds: Bounds, id: u32) -> Result<Shown>
     ensures shown { IfOk result (λ it. ShowsLabel id it.receipt it.label) }
 {

@@ -1,4 +1,4 @@
-//! The label of a row, in a transaction that writes.
+//! The label of a row, in a read-write transaction.
 ghost use Rattle.std.specs.Prelude.{◌≡◌, ◌++◌, ◌∷◌, [], IfOk, None};
 ghost use Rattle.txc_db.specs.DatabaseValue.{newest};
 ghost use Rattle.txc_db.specs.History.{state_at};
@@ -79,7 +79,7 @@ fn called(
     }
 }
 
-/// Calls the function, and is to put the label that it gives under another id.
+/// Calls the function, and buffers a put of its label under another id.
 fn copied(
     alloc: Global,
     caller: &mut Caller<Labels>,

@@ -1,4 +1,4 @@
--- What of a state has been carried over to a new database, and why a carry is refused.
+-- The part of a state that was carried over to a new database, and the errors of a rollover.
 use Rattle.std.specs.Prelude.{◌≡◌, ⊤, ℕ, ◌<◌, ◌≤◌, Bool, true, false, ◌&&◌, ◌||◌, ◌==◌, nat_lt, [], length, filter}
 use Rattle.std.specs.List.{AllByRecursion}
 use Rattle.txc_rows.specs.declared.query.Query.TheVariants.{ById}
@@ -16,9 +16,9 @@ use Rattle.txc_carry.specs.declared.error.CarryError.TheVariants.{Old, TooManyVe
 abbrev pub stands_before : ℕ → ℕ → RowValue → Bool
 stands_before table id r = nat_lt r.table table || ((r.table == table) && nat_lt r.id id)
 
--- The new database is whole, has the history of that name, and holds nothing. As many versions may match as of the old one.
--- Its newest state is the rows of the old one's that stand before the table and id, and so are the rows of its versions. It
--- has at most one event for each row.
+-- The new database is not broken, has that history, and holds nothing. The limit of a query is that of the old
+-- one. Its newest state, and its versions, are the rows of the old newest state before the table and id. It has
+-- at most one event for each row.
 pub record HasCarried (old : DatabaseValue) (events : Name) (table id : ℕ) (new : DatabaseValue) : Type 0 where
   pub whole : new.broken ≡ false
   pub named : new.events ≡ events
@@ -29,16 +29,16 @@ pub record HasCarried (old : DatabaseValue) (events : Name) (table id : ℕ) (ne
   pub versions : AllByRecursion (λ v. stands_before table id v.row ≡ true) new.versions
   pub few : newest new ≤ length (newest_state new)
 
--- ---- refusals
+-- ---- errors
 
--- of the old database: the store refused by itself, or out of memory
+-- of the old database: an error of the store itself, or no memory
 abbrev pub IsReadRefusal : DbError → Type 0
 IsReadRefusal (refusals.Store cause) = IsOwn cause
 IsReadRefusal refusals.Memory = ⊤
 IsReadRefusal e = ⊥
 
--- of the new database: its room is less than the rows of the state; or the store refused by itself, or out of
--- memory, or another record stood in its row
+-- of the new database: its room is less than the rows of the state; or an error of the store itself, or no
+-- memory, or another record in its event log
 abbrev pub IsPutRefusal : DatabaseValue → ℕ → DbError → Type 0
 IsPutRefusal old room refusals.Full = room < length (newest_state old)
 IsPutRefusal old room (refusals.Store cause) = IsOwn cause
@@ -46,19 +46,19 @@ IsPutRefusal old room refusals.Memory = ⊤
 IsPutRefusal old room refusals.Broken = ⊤
 IsPutRefusal old room e = ⊥
 
--- of the carry of some rows: the old database refused to read, or keeps too many versions of one row, or the
--- new one refused
+-- of carrying some rows: the old database cannot be read, or has too many versions of one row, or the new one
+-- fails
 abbrev pub IsCarryStepRefused : DatabaseValue → ℕ → CarryError → Type 0
 IsCarryStepRefused old room (Old e) = IsReadRefusal e
 IsCarryStepRefused old room (TooManyVersions table id) = old.most < matching_of old (ById table id)
 IsCarryStepRefused old room (New e) = IsPutRefusal old room e
 
--- that the new database refused as broken is so: it is stored in a row, and is broken from now on
+-- after the new database failed as broken, it is stored in a log, and is broken from now on
 abbrev pub IsBrokenBy : Name → DatabaseValue → CarryError → Type 0
 IsBrokenBy events new (New refusals.Broken) = HasRow events × (new.broken ≡ true)
 IsBrokenBy events new e = ⊤
 
--- of a carry: the old database is broken; or else what a step of it is refused for
+-- of a rollover: the old database is broken; or else the errors of its steps
 abbrev pub IsCarryRefused : DatabaseValue → ℕ → CarryError → Type 0
 IsCarryRefused old room (Old refusals.Broken) = old.broken ≡ true
 IsCarryRefused old room e = (old.broken ≡ false) × IsCarryStepRefused old room e

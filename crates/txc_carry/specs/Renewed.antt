@@ -3,8 +3,8 @@ use Rattle.std.specs.Prelude.{◌≡◌, ℕ, false, [], Option, None}
 use Rattle.txc_stream.specs.Names.{HasRow}
 use Rattle.txc_db.specs.DatabaseValue.{DatabaseValue, newest, newest_state}
 
--- no row was asked for, and the database was whole: its newest state is the one event of another history, from which on
--- it can be read. As many versions may match as before.
+-- No log was asked for, and the database was not broken: its newest state is the single event of another
+-- history, from which on it can be read. The limit of a query stays.
 pub record IsRenewed (room : Option ℕ) (old new : DatabaseValue) : Type 0 where
   pub asked : room ≡ None
   pub was : old.broken ≡ false

@@ -1,4 +1,4 @@
--- Which rows stand before a place, of rows worked by hand: the ids 3 and 9 of table 1, and the ids 0 and 3 of table 2.
+-- The rows before a place, worked by hand: the ids 3 and 9 of table 1, and the ids 0 and 3 of table 2.
 use Rattle.std.specs.Prelude.{◌≡◌, ℕ, [], ◌∷◌, filter}
 use Rattle.txc_rows.specs.States.{RowValue, State}
 use Rattle.txc_carry.specs.Carried.{stands_before}
@@ -11,7 +11,7 @@ carried_row table id = record { table = table; id = id; group = 5; body = 97 ∷
 abbrev pub worked_rows : State
 worked_rows = carried_row 1 3 ∷ carried_row 1 9 ∷ carried_row 2 0 ∷ carried_row 2 3 ∷ []
 
--- those before a place
+-- the rows before a place
 abbrev pub before : ℕ → ℕ → State
 before table id = filter (stands_before table id) worked_rows
 

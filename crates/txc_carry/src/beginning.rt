@@ -1,4 +1,4 @@
-//! Databases without events.
+//! Making empty databases.
 ghost use Rattle.std.specs.Prelude.{◌≡◌, ◌≤◌, [], false, IfErr, IfOk, IfSome};
 ghost use Rattle.txc_db.specs.Refusals.{IsWant};
 ghost use Rattle.txc_rows.specs.declared.store_error.TheConstants.{MAX_MATCHING};
@@ -8,8 +8,8 @@ use std::alloc::Global;
 use txc_db::{DbCore, DbError};
 use txc_stream::{MAX_CAPACITY, Pen};
 
-/// An empty database with a row for so many events; or, where no number is given, with a history that is not stored
-/// and has room for as many events as there are stamps.
+/// Makes an empty database with an event log for `room` events, or, if that is `None`, with a ghost history of
+/// up to 4,294,967,294 events. Fails only if memory cannot be allocated or SQLite fails.
 pub fn new_database(alloc: Global, room: Option<usize>) -> Result<DbCore, DbError>
     requires { IfSome room (λ room. (1 ≤ room) × (room ≤ MAX_CAPACITY)) }
     ensures history { IfOk result (λ d. d.history ≡ []) }

@@ -1,4 +1,5 @@
-//! A carry reads the old state by ranges of ids, table by table, and commits what each range answers.
+//! Rollover to a new database: it reads the old state by ranges of ids, table by table, and commits the rows of
+//! each range.
 ghost use Rattle.std.specs.Prelude.{◌≡◌, ◌≢◌, ◌⊎◌, ◌+◌, ◌≤◌, [], true, false, length, map, Err, None, IfOk, OnOk, OnErr, IfErr, IfSome};
 ghost use Rattle.txc_rows.specs.declared.query.Change.TheVariants.{Put};
 ghost use Rattle.txc_db.specs.History.{state_at};
@@ -18,7 +19,7 @@ use txc_stamp::Stamp;
 use txc_stream::MAX_CAPACITY;
 use txc_tags::{LAST_TABLE, Table, TagSet};
 
-/// A put of each row.
+/// Returns a put of each row. Fails only if memory cannot be allocated.
 fn puts_of(alloc: Global, rows: Vec<Row>) -> Result<Vec<Change>, AllocError>
     ensures { IfOk result (λ puts. puts.items ≡ map Put rows.items) }
 {
@@ -29,7 +30,7 @@ fn puts_of(alloc: Global, rows: Vec<Row>) -> Result<Vec<Change>, AllocError>
     Ok(puts)
 }
 
-/// Puts the rows, in one commit.
+/// Commits a put of each row.
 fn put_rows(alloc: Global, new: &mut DbCore, rows: Vec<Row>) -> Result<Stamp, DbError>
     requires whole { new.old.broken ≡ false }
     requires tags { new.old.horizon ≡ 0 }
@@ -43,8 +44,8 @@ fn put_rows(alloc: Global, new: &mut DbCore, rows: Vec<Row>) -> Result<Stamp, Db
     }
 }
 
-/// Carries the rows of a table over whose ids stand from the first to the last. Where they have more versions
-/// than a query may look at, each half of the ids is carried for itself.
+/// Carries over the rows of a table with ids from the first to the last. If they have more versions than a
+/// query may look at, it carries over each half of the ids by itself.
 fn carry_range(
     alloc: Global,
     old: &mut DbCore,
@@ -84,7 +85,7 @@ fn carry_range(
     }
 }
 
-/// Carries the rows of a table over.
+/// Carries over the rows of a table.
 fn carry_table(
     alloc: Global,
     old: &mut DbCore,
@@ -105,7 +106,7 @@ fn carry_table(
     carry_range(alloc, old, new, stamp, table, 0, u32::MAX)
 }
 
-/// Carries the rows of all tables over.
+/// Carries over the rows of all tables.
 fn carry_tables(
     alloc: Global,
     old: &mut DbCore,
@@ -130,18 +131,18 @@ fn carry_tables(
     Ok(())
 }
 
-/// The newest stamp.
+/// Returns the newest stamp. Fails only if memory cannot be allocated.
 fn newest_stamp(old: &DbCore) -> Result<Stamp, AllocError>
     ensures { IfOk result (λ stamp. stamp ≡ newest old.now) }
 {
     Ok(old.front()?.newest())
 }
 
-/// A database whose newest state is the old one's: with a row for `room` events; or, where no number is given, with a
-/// history that is not stored. As many versions may match a query as of the old one.
+/// Makes a database whose newest state is the old one's, with an event log for `room` events, or, if that is
+/// `None`, with a ghost history. It allows as many versions to match a query as the old one.
 ///
-/// The old one is vacuumed first, so that where no stamp is held each row has one version. Of the room, the new
-/// one's first events put the rows: at most one event for each row, and mostly one for several hundred.
+/// It vacuums the old one first, so that each row has one version if no stamp is held. The first events of the
+/// new one put the rows: at most one event for each row, and mostly one for several hundred.
 pub fn carry(alloc: Global, old: &mut DbCore, room: Option<usize>) -> Result<DbCore, CarryError>
     requires { IfSome room (λ room. (1 ≤ room) × (room ≤ MAX_CAPACITY)) }
     ensures state { IfOk result (λ new. state_at new.history (length new.history)

@@ -1,20 +1,20 @@
 use thiserror::Error;
 use txc_db::DbError;
+use txc_rows::{MAX_MATCHING, MOST_MATCHING};
 use txc_tags::{Table, Tag};
 
-/// Why a state was not carried over. There is no new database then, and the old one is as it was or as a
-/// vacuum leaves it.
+/// Errors of a rollover. After one there is no new database, and the old one is unchanged or vacuumed.
 #[derive(Clone, Copy, Debug, PartialEq, Eq, Error)]
 pub enum CarryError {
-    /// The old database refused: it is broken, or the memory or the store was refused.
-    #[error("the old database refused: {0}")]
+    /// The old database failed: it is broken, or memory cannot be allocated, or SQLite failed.
+    #[error("the old database failed: {0}")]
     Old(DbError),
-    /// Stamps that are held keep more versions than the database allows of the row with that table and
-    /// id.
-    #[error("too many versions of {} are kept", Tag::id(*.0, *.1))]
+    /// Held stamps keep more versions of the row with that table and id than the database allows to match a
+    /// query.
+    #[error("too many versions of {} are kept: at most {MAX_MATCHING}, or up to {MOST_MATCHING} if so set, may match a query", Tag::id(*.0, *.1))]
     TooManyVersions(Table, u32),
-    /// The new database refused: it has too little room, another record stood in its row, or the memory or the
-    /// store was refused.
-    #[error("the new database refused: {0}")]
+    /// The new database failed: it has too little room, another record is in its event log, or memory cannot be
+    /// allocated, or SQLite failed.
+    #[error("the new database failed: {0}")]
     New(DbError),
 }

@@ -1,4 +1,4 @@
-//! A database that goes on from the newest state of another one, with room for more events.
+//! Rollover: a database that begins with the newest state of another one, with room for more events.
 #![tactic(auto)]
 
 mod beginning;

@@ -1,4 +1,4 @@
-//! A carry in place.
+//! Rollover in place.
 ghost use Rattle.std.specs.Prelude.{◌≡◌, ◌≢◌, ◌⊎◌, ◌≤◌, [], true, false, length, max, Err, None, OnOk, OnErr, IfErr, IfSome};
 ghost use Rattle.txc_db.specs.DatabaseValue.{newest, newest_state, after_vacuum};
 ghost use Rattle.txc_carry.specs.Carried.{IsCarryRefused, IsNotTooMany};
@@ -11,7 +11,8 @@ use std::alloc::Global;
 use txc_db::{DbCore, DbError};
 use txc_stream::{MAX_CAPACITY, Pen};
 
-/// Begins a new history in place, where none is to be stored. Where that is refused, nothing has changed.
+/// Begins a new history in place, if it is a ghost one. Returns `false`, and changes nothing, if it is not, or
+/// that fails.
 fn begins_in_place(alloc: Global, core: &mut DbCore, room: Option<usize>) -> bool
     ensures begun { result ≡ true → IsRenewed room core.old core.new }
     ensures unchanged { result ≡ false → core.new ≡ core.old }
@@ -22,11 +23,12 @@ fn begins_in_place(alloc: Global, core: &mut DbCore, room: Option<usize>) -> boo
     }
 }
 
-/// Makes the database one whose newest state is as it was: with a row for `room` events; or, where no number is given,
-/// with a history that is not stored. As many versions may match a query as before.
+/// Gives the database a new history that begins with its newest state: with an event log for `room` events, or,
+/// if that is `None`, a ghost one. It allows as many versions to match a query as before.
 ///
-/// Where no number is given, the rows stay in their store, and the new history begins with one event that puts them all: that takes
-/// a vacuum, and no work for each row. Where it is refused, and where a number is given, the rows are put as [`carry`] does it.
+/// If `room` is `None`, the rows stay in their store, and the new history begins with one event that puts them
+/// all: that takes a vacuum, and no work for each row. If that fails, or if there is a `room`, it puts the rows
+/// as [`carry`] does.
 pub fn renew(alloc: Global, core: &mut DbCore, room: Option<usize>) -> Result<(), CarryError>
     requires { IfSome room (λ room. (1 ≤ room) × (room ≤ MAX_CAPACITY)) }
     ensures state { OnOk result (newest_state core.new ≡ newest_state core.old) }

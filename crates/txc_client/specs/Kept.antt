@@ -9,8 +9,8 @@ use Rattle.txc_cushion.specs.Cushion.{cushion_front, handed_out}
 use Rattle.txc_cushion.specs.Shared.{CushionMayAnswer}
 use Rattle.txc_ports.specs.declared.bounds.Bounds.{Bounds}
 
--- pins that were handed out, the newest first; what their front shows; and the moment, in milliseconds, of the
--- bounds for which they were
+-- issued pins, the newest first; the history of their front; and the time, in milliseconds, of the bounds for
+-- which they were issued
 pub record HandedValue : Type 0 where
   pub pins : List Pin
   pub front : FrontValue
@@ -21,15 +21,17 @@ pub record KeptValue : Type 0 where
   pub most : ℕ
   pub handed : Option HandedValue
 
--- it is fresh: its moment is no more than the staleness before now, and its stamp is not below the one asked for
+-- it is fresh: its moment is no more than the staleness before now, and its stamp is not below the one asked
+-- for
 abbrev pub is_fresh : Bounds → Pin → Bool
 is_fresh asked pin = not (is_older asked.staleness asked.now pin) && nat_le asked.at_least pin.stamp
 
--- those that are fresh
+-- the fresh ones
 abbrev pub fresh_of : Bounds → HandedValue → List Pin
 fresh_of asked handed = filter (is_fresh asked) handed.pins
 
--- A transaction may begin with them: their time is not over, none is below the stamp asked for, and one is fresh.
+-- A transaction may begin with them: their time is not over, none is below the stamp asked for, and one is
+-- fresh.
 abbrev pub may_be_used : ℕ → Bounds → HandedValue → Bool
 may_be_used most asked handed =
     (nat_le handed.since asked.now && nat_lt asked.now (handed.since + most))
@@ -40,19 +42,19 @@ abbrev pub may_go_on : ℕ → Bounds → Option HandedValue → Bool
 may_go_on most asked None = false
 may_go_on most asked (Some handed) = may_be_used most asked handed
 
--- some pincushion of the row handed these out for these bounds
+-- some pincushion of the history issued these for these bounds
 pub record IsHandedFor (events : Name) (asked : Bounds) (handed : HandedValue) : Type 0 where
   pub pins : CushionMayAnswer events (λ cushion (h : HandedValue). (h.front ≡ cushion_front cushion)
       × (h.pins ≡ handed_out cushion asked.now asked.staleness asked.at_least)) handed
   pub since : handed.since ≡ asked.now
 
--- What is kept after a transaction asked for pins: those that were, where these may be used; else those that some
--- pincushion of the row handed out for its bounds.
+-- The kept pins after a transaction asked for pins: the same, if these may be used; otherwise those that some
+-- pincushion of the history issued for its bounds.
 pub record IsKeptAfter (events : Name) (asked : Bounds) (before : KeptValue) (after : HandedValue) : Type 0 where
   pub same : may_go_on before.most asked before.handed ≡ true → before.handed ≡ Some after
   pub anew : may_go_on before.most asked before.handed ≡ false → IsHandedFor events asked after
 
--- so much is kept then
+-- these pins are kept then
 pub record AreKept (events : Name) (asked : Bounds) (before after : KeptValue) : Type 0 where
   pub handed : HandedValue
   pub some : after.handed ≡ Some handed

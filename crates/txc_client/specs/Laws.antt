@@ -1,4 +1,4 @@
--- What the histories of the nodes show of a client's calls.
+-- A client's calls in the histories of the nodes.
 use Rattle.txc_stream.specs.Names.{Name}
 use Rattle.std.specs.Prelude.{◌≡◌, ◌⊎◌, ◌==◌, ℕ, Bool, false, List, [], ◌∷◌, ◌++◌, slice_get, Some, Result}
 use Rattle.std.specs.List.{filter}
@@ -16,7 +16,7 @@ use Rattle.txc_client.specs.Ports.{reply_to_lookup}
 use Rattle.txc_client.specs.Run.{HasRun}
 use Rattle.txc_client.specs.Txn.{RoTxnValue}
 
--- of the records that a pass has seen, those that it made, in the order of the node's history
+-- the records that a pass made among those that it has seen, in the order of the node's history
 abbrev pub own_records : PassValue → List Record
 own_records p = filter (λ (r : Record). r.pass == p.pass) p.records
 
@@ -37,8 +37,8 @@ IsOne exchange r = ⊥
 abbrev pub AreOne : Exchange → List Record → Type 0
 AreOne exchange made = (r : Record) × (made ≡ r ∷ []) × IsOne exchange r
 
--- What an exchange leaves of records at its node: a hit, or an entry that is kept, one; a miss, or an entry that is
--- not kept, at most one, as the node may have refused; and anything else, none.
+-- The records of an exchange at its node: a hit, or an entry that is stored, one; a miss, or an entry that is
+-- not stored, at most one, since the node may have failed; and anything else, none.
 abbrev pub Leaves : Exchange → List Record → Type 0
 Leaves (exchanges.Lookup at key lo hi (Some hit)) made = AreOne (exchanges.Lookup at key lo hi (Some hit)) made
 Leaves (exchanges.Insert at entry (Some keeps)) made = AreOne (exchanges.Insert at entry (Some keeps)) made
@@ -57,9 +57,9 @@ pub record HasAdded (xs : List Exchange) (before after : PassValue) : Type 0 whe
   pub left : AreLeftBy xs made
   pub own : own_records after ≡ own_records before ++ made
 
--- The client's own records in the history of a node are, after a call of a transaction, those before it, and then
--- those of the call's exchanges with the node, in their order. They are one of each hit and of each entry that the
--- node keeps, at most one of each miss and of each other insertion, and no others.
+-- The client's own records in the history of a node, after a call of a transaction, are those before it, and
+-- then those of the call's exchanges with the node, in their order. They are one for each hit and for each
+-- entry that the node stores, at most one for each miss and for each other insertion, and no others.
 abbrev pub CallsStandOnce : Type 0
 CallsStandOnce = (next : Next) (row : Name) (node_histories : ℕ → Name) (old new : RoTxnValue) (k : Call)
     (result : Result (List ℕ) TxnError) (run : HasRun next row node_histories old k new result) (node : ℕ) (before after : PassValue)

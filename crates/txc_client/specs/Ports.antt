@@ -1,4 +1,4 @@
--- What the passes of a client show, and what each request leaves of them.
+-- The passes of a client, and the effect of each request on them.
 use Rattle.txc_stream.specs.Names.{Name}
 use Rattle.std.specs.Prelude.{◌≡◌, ◌⊎◌, ℕ, List, [], ◌∷◌, slice_get, set, Option, Some, None}
 use Rattle.txc_tags.specs.Keys.{Call}
@@ -35,42 +35,42 @@ pub record IsCallAt (node : ℕ) (call : PassValue → PassValue → Type 0) (ol
   pub called : call old new
   pub others : news ≡ set olds node new
 
--- a call through the pass was refused as some node of the named row refuses it, and left the pass so
+-- a call through the pass failed as some node of the named history fails, and left the pass so
 pub record IsCallRefused (node_histories : ℕ → Name) (refused : NodeValue → NodeError → Type 0)
     (old new : PassValue) : Type 0 where
   pub error : NodeError
   pub reason : NodeMayRefuse node_histories (λ n. IsRefusedThrough refused n old) error
   pub left : IsPassLeft (node_histories old.settings.number) old new error
 
--- what a node replied to a lookup that found so much
+-- the reply of a node to a lookup with this result
 abbrev pub reply_to_lookup : Option (Answered Shown) → Reply Shown
 reply_to_lookup None = Miss
 reply_to_lookup (Some hit) = Hit hit.answer
 
--- one lookup, whose record shows what was found; or it was refused, and nothing was found
+-- one lookup, whose record has the result; or it failed, and nothing was found
 abbrev pub LookupLeaves : (ℕ → Name) → Call → ℕ → ℕ → Option (Answered Shown) → PassValue → PassValue → Type 0
 LookupLeaves node_histories key lo hi found old new = HasMade old new (Lookup key lo hi) (reply_to_lookup found)
     ⊎ ((found ≡ None) × IsCallRefused node_histories (λ n. IsLookupRefused n lo hi) old new)
 
--- what a node keeps that made the insertion
+-- the result of a node's insertion
 abbrev pub kept_by : Insertion → Kept
 kept_by (insertions.Stored reach) = kept.Stored reach
 kept_by insertions.Kept = kept.Earlier
 
--- one insertion of the entry, which is kept so; or it was refused, and nothing is kept
+-- one insertion of the entry, with this result; or it failed, and nothing is stored
 abbrev pub InsertLeaves : (ℕ → Name) → Entry → Option Kept → PassValue → PassValue → Type 0
 InsertLeaves node_histories entry (Some keeps) old new =
     (insertion : Insertion) × HasInserted old new entry insertion × (keeps ≡ kept_by insertion)
 InsertLeaves node_histories entry None old new = IsCallRefused node_histories IsStepRefused old new
 
--- the counts of all records of the node, which the pass was shown; or it was refused, and nothing was counted
+-- the counts of all records of the node, which the pass was shown; or it failed, and nothing was counted
 abbrev pub CountsLeave : (ℕ → Name) → Option Totals → PassValue → PassValue → Type 0
 CountsLeave node_histories (Some counts) old new =
     GrowsByOthers old.pass old.records new.records × AreCountsOf new.records counts
 CountsLeave node_histories None old new = IsCallRefused node_histories IsCountRefused old new
 
--- What an exchange leaves of the passes. A lookup is one lookup at the node that is named, of this call at these
--- stamps; an insertion is one insertion of this entry there; and any other leaves every pass as it was.
+-- The passes after an exchange. A lookup is one lookup at the named node, of this call at these stamps; an
+-- insertion is one insertion of this entry there; and any other exchange leaves every pass as before.
 abbrev pub PassesAfter : (ℕ → Name) → List PassValue → Exchange → List PassValue → Type 0
 PassesAfter node_histories olds (exchanges.Lookup node key lo hi found) news =
     IsCallAt node (LookupLeaves node_histories key lo hi found) olds news

@@ -1,5 +1,5 @@
--- How a call of a transaction goes: what it asks and is replied, what each request leaves of the passes, and what
--- comes of each reply.
+-- The run of a call of a transaction: its requests and replies, the effect of each request on the passes, and
+-- the effect of each reply.
 use Rattle.txc_stream.specs.Names.{Name}
 use Rattle.std.specs.Prelude.{◌≡◌, ℕ, List, [], ◌∷◌, length, Some, Result, Ok, Err}
 use Rattle.txc_rows.specs.RowTags.{query_tag}
@@ -22,9 +22,9 @@ use Rattle.txc_txn.specs.Transitions.{StartTransition}
 use Rattle.txc_client.specs.Ports.{PassesAfter}
 use Rattle.txc_client.specs.Txn.{RoTxnValue}
 
--- What the database or the pincushion refuses, some database or some pincushion of the row refuses so. A pin is the newest
--- event of the history that it shows. What is found for a query, some database of the row answers so, over the largest reach
--- that it can tell, and with the query's tag alone.
+-- An error of the database or the pincushion is one of some database or some pincushion of the history. A pin
+-- is the newest event of the history that it shows. An answer to a query is one of some database of the
+-- history, over the largest reach that it can return, and with only the query's tag.
 abbrev pub IsToldSo : Name → Exchange → Type 0
 IsToldSo row (exchanges.Pin now at_least (Ok pinned)) = pinned.stamp ≡ length pinned.front.history
 IsToldSo row (exchanges.Pin now at_least (Err error)) = MayRefuse row (λ d. IsPinRefused d at_least) error

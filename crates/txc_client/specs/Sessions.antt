@@ -1,4 +1,4 @@
--- What a caller reads in a session, beside what it has read and made before.
+-- The reads of a caller in a session, compared with what it has read and made before.
 use Rattle.std.specs.Prelude.{◌≡◌, ℕ, ◌≤◌, List, [], ◌∷◌, ◌++◌, take, length, Option, Some, None, option_map, IfSome}
 use Rattle.std.specs.List.{AllByRecursion}
 use mathlib.Core.List.{IsPrefix}
@@ -10,7 +10,7 @@ use Rattle.txc_txn.specs.declared.receipt.Receipt.{Receipt}
 use Rattle.txc_txn.specs.Core.{Explains}
 use Rattle.txc_txn.specs.Sessions.{began, noted_commit, noted_receipt, Deed, IsFloorOf}
 
--- the events that led to the state that a receipt's transaction has read, if it was answered
+-- the events before the state that a receipt's transaction has read, if it completed a call
 abbrev pub read_by : Receipt → Option History
 read_by receipt = option_map (λ (pin : Pin). take pin.stamp receipt.seen.history) receipt.pin
 
@@ -25,26 +25,26 @@ pub record IsReceiptOf (next : Next) (L : History) (bounds : Bounds) (receipt : 
   pub seen : IsPrefix receipt.seen.history L
   pub explained : Explains next receipt.seen.history bounds receipt.pin receipt.answers.items
 
--- what a caller noted is of the database of this history: a receipt of a transaction; and the stamp of a commit,
--- with so much of the history that it shows the commit
+-- the noted event is of the database of this history: a receipt of a transaction; or the stamp of a commit,
+-- with a history that shows the commit
 abbrev pub IsOfDatabase : Next → History → Deed → Type 0
 IsOfDatabase next L (noted_receipt receipt) = (bounds : Bounds) × IsReceiptOf next L bounds receipt
 IsOfDatabase next L (noted_commit stamp seen) = IsPrefix seen.history L × (stamp ≤ length seen.history)
 IsOfDatabase next L (began bounds) = Unit {0}
 
--- the state that was read or made by this is no newer than the one to which these events led: what led to it is
--- a beginning of these events
+-- the state that this event read or made is no newer than the one after these events: its own past is a prefix
+-- of these
 abbrev pub IsNoNewer : History → Deed → Type 0
 IsNoNewer read deed = IfSome (past_of deed) (λ past. IsPrefix past read)
 
--- each transaction that began did so at the floor of a session whose caller had done all that stands before it
+-- each transaction that began did so at the floor of a session after all events before it
 abbrev pub AreInSession : List Deed → Type 0
 AreInSession deeds = (before after : List Deed) (bounds : Bounds) → deeds ≡ before ++ began bounds ∷ after
     → IsFloorOf before bounds.at_least
 
--- A caller never reads a state older than one that it has read or made. Of all that it did with one database in
--- one session, whatever transaction began, at whatever place: its receipt is of a state that is at least as
--- new as each that was noted before it began. It may be the transaction of any client, and end at any time.
+-- A caller never reads a state older than one that it has read or made. Take all its events with one database
+-- in one session, and any transaction that began there: its receipt is of a state at least as new as each that
+-- was noted before it began. It may be the transaction of any client, and end at any time.
 abbrev pub NobodyGoesBack : Type 0
 NobodyGoesBack = (next : Next) (L : History) (deeds : List Deed)
     → AllByRecursion (IsOfDatabase next L) deeds → AreInSession deeds

@@ -1,4 +1,4 @@
--- What callers see of clients and of their transactions.
+-- The values of clients and of their transactions in contracts.
 use Rattle.std.specs.Prelude.{◌≡◌, ℕ, List, [], Some, All, length, map, true}
 use Rattle.txc_stream.specs.Names.{Name}
 use Rattle.txc_tags.specs.Keys.{Call}
@@ -30,8 +30,8 @@ pub record IsResting (row : Name) (t : RoTxnValue) : Type 0 where
   pub events : t.txn.core.seen.events ≡ row
   pub nodes : t.txn.core.nodes ≡ length t.passes
 
--- A core has begun within these bounds, over a database of the row, with the pins that some pincushion of the row
--- hands out for them. It uses each of them, has the present, and has no answer.
+-- A core has begun within these bounds, over a database of the row, with the pins that some pincushion of the
+-- row issues for them. It uses each of them, has the present, and has no answer.
 pub record HasBegunCore (events : Name) (asked : Bounds) (c : CoreValue) : Type 0 where
   pub bounds : c.bounds ≡ asked
   pub recorded : c.recorded ≡ []
@@ -46,7 +46,7 @@ abbrev pub client_of : RoTxnValue → ClientValue
 client_of t =
     record { passes = t.passes; renew_after = t.txn.core.renew_after; objects = t.txn.objects }
 
--- at every member, this is what the call gives without a cache
+-- at every member, this is the uncached value of the call
 abbrev pub IsValueAtMembers : Next → CoreValue → Call → List ℕ → Type 0
 IsValueAtMembers next c k bytes =
     All (λ p. eval next k (state_at c.seen.history p.stamp) ≡ Some bytes) c.pins.members

@@ -1,4 +1,4 @@
-//! A call of a transaction, led to its end at the locked ports.
+//! A call of a transaction, run to its end at the locked ports.
 ghost use Rattle.std.specs.Prelude.{◌≡◌, ◌≢◌, [], Err, IsNone, Some, length};
 ghost use mathlib.Core.List.{IsPrefix};
 ghost use Rattle.txc_registry.specs.Objects.{activity_of, numbers_of};
@@ -18,8 +18,8 @@ use txc_registry::Cacheable;
 use txc_tags::Key;
 use txc_txn::RunningTxn;
 
-// Makes a call of the transaction. Each of its requests is one locked call, until it has a value or is
-// refused.
+// Makes a call of the transaction. Each of its requests is one locked call, until the call has a value or
+// fails.
 pub(crate) fn call_at<A: App, C: Cacheable, J: Naming>(
     rt: &impl Wait,
     alloc: Global,

@@ -30,7 +30,7 @@ use txc_txn::{RunningTxn, Session, TxnCore};
 
 /// A client of a database, its pincushion and its nodes, with the functions that it calls, all idle.
 ///
-/// It is sent to the thread that uses it, and begins one transaction at a time.
+/// It can be sent to the thread that uses it, and has one transaction at a time.
 #[derive(Drop)]
 pub struct Client<'a, A: App, C: Cacheable, J: Naming> {
     pub(crate) ports: Ports<'a, A, J>,
@@ -54,10 +54,10 @@ impl<'a, A: App, C: Cacheable, J: Naming> Model for Client<'a, A, C, J> {
 }
 
 impl<'a, A: App, C: Cacheable, J: Naming> Client<'a, A, C, J> {
-    /// A client with a pass of its own through each node. It renews the newest pin of a transaction where its
-    /// moment is more than `renew_after` milliseconds before the transaction's `now`.
+    /// Makes a client with a new pass at each node. It renews the newest pin of a transaction if that one's
+    /// time is more than `renew_after` milliseconds before the transaction's `now`.
     ///
-    /// It is refused as a pass is. The passes drawn by then stay counted at their nodes, and the registry is
+    /// Fails if a pass cannot be made. The passes made by then stay counted at their nodes, and the registry is
     /// dropped.
     pub fn new(
         rt: &impl Wait,
@@ -85,8 +85,9 @@ impl<'a, A: App, C: Cacheable, J: Naming> Client<'a, A, C, J> {
         })
     }
 
-    /// Begins a transaction with the newest of the pins that its bounds allow, and the present. It is to give
-    /// each of these pins back. Out of memory, they are given back at once, and the client is returned.
+    /// Begins a transaction with the newest of the pins that its bounds allow, and the present. The transaction
+    /// returns each of these pins at its end. If memory cannot be allocated, the pins are returned at once, and
+    /// so is the client.
     pub fn begin_ro(
         self,
         rt: &impl Wait,
@@ -123,18 +124,18 @@ impl<'a, A: App, C: Cacheable, J: Naming> Client<'a, A, C, J> {
         }
     }
 
-    /// No pins yet, for transactions of this client that keep them for less than `most` milliseconds. With 0 each
-    /// transaction begins with pins of its own.
+    /// Returns an empty set of kept pins, for transactions of this client that reuse pins for less than `most`
+    /// milliseconds. With 0 each transaction begins with pins of its own.
     pub fn keeping(&self, most: u64) -> KeptPins<'a, J>
         ensures { result ≡ record { most = most; handed = None } }
     {
         KeptPins::new(self.ports.cushion, most)
     }
 
-    /// Begins a transaction with exactly those of the kept pins that its bounds allow, and the present. It is to
-    /// give back the pins alone that it adds: the others are to be kept as long as it is open. Where the kept
-    /// pins may not be used, they are given back first, and others handed out, as by [`Client::begin_ro`].
-    /// Out of memory, the client is returned.
+    /// Begins a transaction with exactly those of the kept pins that its bounds allow, and the present. The
+    /// transaction returns only the pins that it adds: the others stay kept while it is open. If the kept pins
+    /// may not be used, they are returned first, and others are issued, as by [`Client::begin_ro`]. If memory
+    /// cannot be allocated, the client is returned.
     pub fn begin_keeping(
         self,
         rt: &impl Wait,
@@ -180,8 +181,8 @@ impl<'a, A: App, C: Cacheable, J: Naming> Client<'a, A, C, J> {
         }
     }
 
-    /// Begins a transaction in a session: one that reads nothing older than the session's floor. The session
-    /// is one that was used with this database alone.
+    /// Begins a transaction in a session: it reads nothing older than the session's floor. The session must
+    /// belong to this database.
     pub fn begin_in(
         self,
         rt: &impl Wait,
@@ -204,7 +205,7 @@ impl<'a, A: App, C: Cacheable, J: Naming> Client<'a, A, C, J> {
         self.begin_ro(rt, alloc, bounds)
     }
 
-    /// How many nodes there are.
+    /// Returns how many nodes there are.
     pub fn node_count(&self) -> usize
         ensures answer { result ≡ length self.now.passes }
         ensures some { 1 ≤ result }
@@ -212,7 +213,7 @@ impl<'a, A: App, C: Cacheable, J: Naming> Client<'a, A, C, J> {
         self.ports.len()
     }
 
-    /// The pass through a node, which shows a legal history of it.
+    /// Returns the pass at a node, which shows a legal history of it.
     pub fn pass(&self, node: usize) -> &NodePass<J>
         requires { node < length self.now.passes }
         ensures { result.now ≡ get_or self.now.passes node result.now }
@@ -220,8 +221,8 @@ impl<'a, A: App, C: Cacheable, J: Naming> Client<'a, A, C, J> {
         self.ports.pass(node)
     }
 
-    /// The counts of what its pass through a node has seen; none where there is no such node, or its history is
-    /// not stored. It takes no lock and no memory.
+    /// Returns the counts of the records that its pass at a node has seen. Returns `None` if there is no such
+    /// node, or its records are not stored. It takes no lock, and does not allocate.
     pub fn counts(&self, node: usize) -> Option<Counts>
         ensures { MatchOption (slice_get self.now.passes node)
             (result ≡ None)
@@ -235,8 +236,8 @@ impl<'a, A: App, C: Cacheable, J: Naming> Client<'a, A, C, J> {
         audit(self.ports.pass(node))
     }
 
-    /// The counts of all records of a node, stored or not, which its pass is shown; none where there is no such
-    /// node, or it refuses. It takes the node's lock, and no memory.
+    /// Returns the counts of all records of a node, stored or not, and shows these to its pass. Returns `None`
+    /// if there is no such node, or the node fails. It takes the node's lock, and does not allocate.
     pub fn node_counts(&mut self, rt: &impl Wait, node: usize) -> Option<Counts>
         ensures same { self.new ≡ record self.old { passes = self.new.passes } }
         ensures passes { HaveGrown self.old.passes self.new.passes }
@@ -251,7 +252,8 @@ impl<'a, A: App, C: Cacheable, J: Naming> Client<'a, A, C, J> {
     }
 }
 
-// A core with the pins that the pincushion hands out for its bounds. Out of memory, they are given back.
+// Makes a core with the pins that the pincushion issues for its bounds. If memory cannot be allocated, they are
+// returned.
 fn begun<J: Naming>(
     rt: &impl Wait,
     alloc: Global,
@@ -285,7 +287,7 @@ fn begun<J: Naming>(
     }
 }
 
-// A core with pins that its bounds allow. Out of memory, none of them is given back.
+// Makes a core with pins that its bounds allow. If memory cannot be allocated, none of them is returned.
 fn begun_with(
     alloc: Global,
     nodes: usize,
@@ -310,7 +312,7 @@ fn begun_with(
     }
 }
 
-// A core with the kept pins that are fresh for its bounds.
+// Makes a core with the kept pins that are fresh for its bounds.
 fn begun_keeping<'a, J: Naming>(
     rt: &impl Wait,
     alloc: Global,
@@ -339,7 +341,7 @@ fn begun_keeping<'a, J: Naming>(
     }
 }
 
-// Gives the pins back one by one, which takes no memory.
+// Returns the pins one by one, which does not allocate.
 pub(crate) fn give_back_each<J: Naming>(rt: &impl Wait, cushion: &Pincushion<J>, pins: &Pins) {
     for pin in &pins.pins {
         let _ = cushion.give_back(rt, &[pin.stamp]);

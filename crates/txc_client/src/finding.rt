@@ -1,4 +1,4 @@
-//! Queries of transactions, asked at the locked database.
+//! Queries of transactions at the locked database.
 ghost use Rattle.std.specs.Prelude.{◌≡◌, ◌∷◌, [], IfErr, IfOk};
 ghost use Rattle.txc_rows.specs.RowTags.{query_tag};
 ghost use Rattle.txc_db.specs.Calls.{IsQueryRefused};
@@ -12,7 +12,7 @@ use txc_rows::Query;
 use txc_stamp::Stamp;
 use txc_validity::Found;
 
-// The answer of the query at the stamp, with the history in which it holds.
+// Returns the answer of the query at the stamp, with the history in which it holds.
 #[tactic(auto, using(txc_app::proofs::Claims::found_rows_hold))]
 pub(crate) fn find<J: Naming>(
     rt: &impl Wait,

@@ -1,4 +1,4 @@
-//! Pins that were handed out to be kept.
+//! Issued pins that a client keeps.
 ghost use Rattle.std.specs.Prelude.{◌≡◌, All, nat_le, filter, map, IfErr, IfOk};
 ghost use Rattle.std.specs.List.{list_all, list_any};
 ghost use Rattle.txc_db.specs.History.{IsAllowed};
@@ -16,8 +16,8 @@ use txc_db::Naming;
 use txc_ports::Bounds;
 use txc_stamp::Stamp;
 
-/// Pins that were handed out, each with a user for them, and their stamps, by which they are given back. Nobody can
-/// forget them: they are to be given back.
+/// Pins that were issued, each with a user for them, and their stamps, by which they are returned. It is
+/// linear: they must be returned.
 pub(crate) struct Handed {
     pins: Pins,
     stamps: Vec<Stamp>,
@@ -35,14 +35,14 @@ impl Model for Handed {
     ghost invariant = { λ h. h.stamps.items ≡ map (λ pin. pin.stamp) h.pins.pins.items };
 }
 
-// Whether a transaction with these bounds may use the pin.
+// Returns `true` if a transaction with these bounds may use the pin.
 fn is_fresh(pin: Pin, bounds: &Bounds) -> bool
     ensures { result ≡ is_fresh bounds.entry.now pin }
 {
     !pin.is_older(bounds.staleness, bounds.now) && bounds.at_least <= pin.stamp
 }
 
-// The pins that are fresh.
+// Returns the fresh pins.
 fn fresh_pins(alloc: Global, pins: &[Pin], bounds: &Bounds) -> Result<Vec<Pin>, AllocError>
     ensures { IfOk result (λ fresh. fresh.items ≡ filter (is_fresh bounds.entry.now) pins.now) }
 {
@@ -52,21 +52,21 @@ fn fresh_pins(alloc: Global, pins: &[Pin], bounds: &Bounds) -> Result<Vec<Pin>, 
         .collect(alloc)
 }
 
-// Whether none of the pins is below the stamp.
+// Returns `true` if none of the pins is below the stamp.
 fn are_not_below(pins: &[Pin], at_least: Stamp) -> bool
     ensures { result ≡ list_all (λ p. nat_le at_least p.stamp) pins.now }
 {
     pins.iter().all(|pin| at_least <= pin.stamp)
 }
 
-// Whether one of the pins is fresh.
+// Returns `true` if one of the pins is fresh.
 fn has_fresh(pins: &[Pin], bounds: &Bounds) -> bool
     ensures { result ≡ list_any (is_fresh bounds.entry.now) pins.now }
 {
     pins.iter().any(|pin| is_fresh(*pin, bounds))
 }
 
-// The stamps of the pins.
+// Returns the stamps of the pins.
 fn stamps_of(alloc: Global, pins: &[Pin]) -> Result<Vec<Stamp>, AllocError>
     ensures { IfOk result (λ stamps. stamps.items ≡ map (λ pin. pin.stamp) pins.now) }
 {
@@ -74,7 +74,7 @@ fn stamps_of(alloc: Global, pins: &[Pin]) -> Result<Vec<Stamp>, AllocError>
 }
 
 impl Handed {
-    /// Whether a transaction may begin with them.
+    /// Returns `true` if a transaction may begin with them.
     pub(crate) fn may_be_used(&self, most: u64, bounds: &Bounds) -> bool
         ensures { result ≡ may_be_used most bounds.entry.now self.now }
     {
@@ -84,7 +84,8 @@ impl Handed {
             && has_fresh(&self.pins.pins, bounds)
     }
 
-    /// Those that are fresh. It takes no lock, and no user is added: those of the kept pins are theirs too.
+    /// Returns the fresh ones. It takes no lock, and adds no user: the users of the kept pins count for these.
+    /// Fails only if memory cannot be allocated.
     pub(crate) fn fresh(&self, alloc: Global, bounds: &Bounds) -> Result<Pins, AllocError>
         ensures pins { IfOk result (λ given. given.pins.items ≡ fresh_of bounds.entry.now self.now) }
         ensures front { IfOk result (λ given. given.front ≡ self.now.front) }
@@ -99,7 +100,7 @@ impl Handed {
         Ok(Pins { pins, front })
     }
 
-    /// Takes one user of each away. It takes no memory.
+    /// Removes one user of each pin. Fails if a stamp has no user left. Does not allocate.
     pub(crate) fn give_back<J: Naming>(
         self,
         rt: &impl Wait,
@@ -117,7 +118,7 @@ impl Handed {
     }
 }
 
-/// Pins that the pincushion hands out for these bounds. Out of memory, they are given back.
+/// Issues pins for these bounds. If memory cannot be allocated, they are returned to the pincushion.
 pub(crate) fn hand_out<J: Naming>(
     rt: &impl Wait,
     alloc: Global,

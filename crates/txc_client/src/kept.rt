@@ -14,7 +14,7 @@ use txc_cushion::{Pincushion, Pins, UnknownPin};
 use txc_db::Naming;
 use txc_ports::Bounds;
 
-// The pins that were kept, where they may be used; else these are given back, and others handed out.
+// Returns the kept pins if they may be used. Otherwise returns them to the pincushion, and issues others.
 fn renewed<J: Naming>(
     rt: &impl Wait,
     alloc: Global,
@@ -40,10 +40,10 @@ fn renewed<J: Naming>(
     hand_out(rt, alloc, cushion, bounds)
 }
 
-/// Pins that a client keeps from one transaction to the next, for less than so many milliseconds. So long no
-/// vacuum passes them.
+/// Pins that a client keeps from one transaction to the next, for less than `most` milliseconds. Until they are
+/// returned, no vacuum passes them.
 ///
-/// Nobody can forget them: they are to be given back, by [`KeptPins::give_back`].
+/// It is linear: [`KeptPins::give_back`] must consume it.
 pub struct KeptPins<'a, J: Naming> {
     cushion: &'a Pincushion<J>,
     most: u64,
@@ -72,8 +72,8 @@ impl<'a, J: Naming> KeptPins<'a, J> {
         }
     }
 
-    // Pins for a transaction with these bounds, none of which it is to give back. Out of memory for the first
-    // ones, none are kept.
+    // Returns pins for a transaction with these bounds; the transaction returns none of them. If memory for the
+    // first ones cannot be allocated, none are kept.
     pub(crate) fn fresh(
         self,
         rt: &impl Wait,
@@ -110,7 +110,8 @@ impl<'a, J: Naming> KeptPins<'a, J> {
         }
     }
 
-    /// Gives them back, once the client begins no transaction with them any more. It takes no memory.
+    /// Returns the pins to the pincushion. The client begins no more transactions with them. Fails if one of
+    /// them has no user left. Does not allocate.
     pub fn give_back(self, rt: &impl Wait) -> Result<(), UnknownPin>
         ensures refused { IfErr result (λ unknown. MatchOption self.entry.handed ⊥ (λ handed.
             CushionMayAnswer J.database_history (λ c stamp.

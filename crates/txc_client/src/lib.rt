@@ -1,7 +1,7 @@
 //! Clients: read-only transactions over the locked database, the locked pincushion and the shared nodes.
 //!
-//! A client belongs to one thread. What clients share are the database, the pincushion and the nodes, each
-//! under a lock of its own; each request of a transaction is one locked call, and no call holds two locks.
+//! A client belongs to one thread. Clients share the database, the pincushion and the nodes, each under a lock
+//! of its own; each request of a transaction is one locked call, and no call holds two locks.
 #![tactic(auto)]
 
 mod calling;

@@ -1,4 +1,4 @@
-//! The locked ports that a transaction asks, one call for each request.
+//! The locked ports of a transaction, with one call for each request.
 ghost use Rattle.std.specs.Prelude.{◌≡◌, ◌≤◌, ◌<◌, ◌⊎◌, [], get_or, map, All, Any, IfErr, IfOk, length};
 ghost use Rattle.txc_shared.specs.Refusals.{IsNewPassRefused, NodeMayRefuse};
 
@@ -13,8 +13,8 @@ use txc_node::{Counts, Entry};
 use txc_ports::{Kept, PortReply, PortRequest};
 use txc_shared::{Insertion, NodeError, NodePass, SharedNode};
 
-/// A database, its pincushion, and nodes that take its events, with a pass through each node. Contracts see
-/// the passes.
+/// A database, its pincushion, and nodes that take its events, with a pass at each node. Contracts see the
+/// passes.
 #[derive(Drop)]
 pub(crate) struct Ports<'a, A: App, J: Naming> {
     pub(crate) database: &'a Database<J>,
@@ -43,7 +43,7 @@ impl<'a, A: App, J: Naming> Ports<'a, A, J> {
     ghost use Rattle.txc_ports.specs.Asking.{IsOfRow, IsReplyTo, MayAsk};
     ghost use Rattle.txc_ports.specs.Exchanges.{IsExchange};
 
-    /// Draws a pass through each node. It is refused as a pass is.
+    /// Makes a pass at each node. Fails if a pass cannot be made.
     pub(crate) fn new(
         rt: &impl Wait,
         alloc: Global,
@@ -66,7 +66,7 @@ impl<'a, A: App, J: Naming> Ports<'a, A, J> {
         })
     }
 
-    /// How many nodes there are.
+    /// Returns how many nodes there are.
     pub(crate) fn len(&self) -> usize
         ensures answer { result ≡ length self.now }
         ensures some { 1 ≤ result }
@@ -74,7 +74,7 @@ impl<'a, A: App, J: Naming> Ports<'a, A, J> {
         self.passes.len()
     }
 
-    /// The pass through a node.
+    /// Returns the pass at a node.
     pub(crate) fn pass(&self, node: usize) -> &NodePass<J>
         requires { node < length self.now }
         ensures { result.now ≡ get_or self.now node result.now }
@@ -82,7 +82,7 @@ impl<'a, A: App, J: Naming> Ports<'a, A, J> {
         &self.passes[node]
     }
 
-    /// The counts of all records of a node. A node that refuses counts nothing.
+    /// Returns the counts of all records of a node, or `None` if the node fails.
     pub(crate) fn node_counts(&mut self, rt: &impl Wait, node: usize) -> Option<Counts>
         requires { node < length self.old }
         ensures passes { HaveGrown self.old self.new }
@@ -96,7 +96,7 @@ impl<'a, A: App, J: Naming> Ports<'a, A, J> {
         }
     }
 
-    // Gives the node an entry to keep. A node that refuses keeps nothing.
+    // Gives the node an entry to store. A node that fails stores nothing.
     fn insert(
         &mut self,
         rt: &impl Wait,
@@ -119,8 +119,8 @@ impl<'a, A: App, J: Naming> Ports<'a, A, J> {
         }
     }
 
-    /// Asks what the transaction asks, in one call. It has seen that much of the history. A node that refuses has
-    /// nothing.
+    /// Makes the transaction's request, in one call. `seen` is the history that the transaction has seen. A
+    /// node that fails has no entry.
     pub(crate) fn ask(
         &mut self,
         rt: &impl Wait,
@@ -163,7 +163,7 @@ impl<'a, A: App, J: Naming> Ports<'a, A, J> {
 
 ghost use Rattle.txc_client.specs.Ports.{kept_by};
 
-// A pass through each of the nodes, in order.
+// Returns a pass at each of the nodes, in order.
 fn draw_passes<A: App, J: Naming>(
     rt: &impl Wait,
     alloc: Global,
@@ -181,7 +181,7 @@ fn draw_passes<A: App, J: Naming>(
     Ok(passes)
 }
 
-// What a node keeps that made this insertion.
+// Returns the result of a node's insertion.
 fn kept_by(insertion: Insertion) -> Kept
     ensures { result ≡ kept_by insertion }
 {

@@ -26,14 +26,14 @@ use txc_stamp::Stamp;
 use txc_tags::Key;
 use txc_txn::{Receipt, RunningTxn};
 
-/// A read-only transaction of a client. All that it answers is right at each stamp where it may still be
-/// serialised.
+/// A read-only transaction of a client. Each value that it returns is correct at each stamp at which it may
+/// still be serialised.
 ///
-/// It must be spent, by [`RoTxn::commit`] or [`RoTxn::abort`], which return the client.
+/// It is linear: [`RoTxn::commit`] or [`RoTxn::abort`] must consume it, and returns the client.
 pub struct RoTxn<'a, A: App, C: Cacheable, J: Naming> {
     pub(crate) ports: Ports<'a, A, J>,
     pub(crate) renew_after: u64,
-    // How many of the first pins that it took its client keeps.
+    // The number of its first pins that its client keeps.
     pub(crate) kept: usize,
     pub(crate) txn: RunningTxn<A, C>,
 }
@@ -51,10 +51,10 @@ impl<'a, A: App, C: Cacheable, J: Naming> Model for RoTxn<'a, A, C, J> {
 }
 
 impl<'a, A: App, C: Cacheable, J: Naming> RoTxn<'a, A, C, J> {
-    /// The call's value: what it gives without a cache at every stamp that remains.
+    /// Returns the call's value: the uncached value at every stamp still open to the transaction.
     ///
-    /// Where it is refused, the transaction is open and its answers are as before. A node that refuses is one
-    /// that has nothing, and keeps nothing.
+    /// If the call fails, the transaction stays open, with its results as before. A node that fails counts as a
+    /// miss, or as an insertion that was dropped.
     pub fn call(&mut self, rt: &impl Wait, alloc: Global, key: Key) -> Result<Value, TxnError>
         ensures passes { HaveGrown self.old.passes self.new.passes }
         ensures answer { IfOk result (IsValueAtMembers A.next self.new.txn.core key) }
@@ -77,28 +77,28 @@ impl<'a, A: App, C: Cacheable, J: Naming> RoTxn<'a, A, C, J> {
         result
     }
 
-    /// The pins where it may still be serialised, the newest first.
+    /// Returns the pins at which it may still be serialised, the newest first.
     pub fn members(&self) -> &[Pin]
         ensures { result.now ≡ self.now.txn.core.pins.members }
     {
         self.txn.core().members()
     }
 
-    /// Whether it may still be serialised at the present.
+    /// Returns `true` if it may still be serialised at the present.
     pub fn has_present(&self) -> bool
         ensures { result ≡ self.now.txn.core.pins.has_present }
     {
         self.txn.core().has_present()
     }
 
-    /// The calls that were answered, with their values, in order.
+    /// Returns the completed calls, with their values, in order.
     pub fn answers(&self) -> &[Recorded]
         ensures { result.now ≡ self.now.txn.core.recorded }
     {
         self.txn.core().answers()
     }
 
-    /// What it has seen of the history.
+    /// Returns a front of the history that it has seen.
     pub fn seen(&self) -> &HistoryFront
         ensures answer { result.now ≡ self.now.txn.core.seen }
         ensures row { result.now.events ≡ J.database_history }
@@ -106,7 +106,7 @@ impl<'a, A: App, C: Cacheable, J: Naming> RoTxn<'a, A, C, J> {
         self.txn.core().seen()
     }
 
-    /// What its pin set means. It does nothing when it runs.
+    /// Its pin set is correct in the history that it has seen. This is a lemma: it does nothing when it runs.
     pub fn is_kept(&self)
         ensures meant { IsTxn A.next self.now.txn }
         ensures idle { AllIdle self.now.txn.objects }
@@ -114,8 +114,8 @@ impl<'a, A: App, C: Cacheable, J: Naming> RoTxn<'a, A, C, J> {
         self.txn.is_kept();
     }
 
-    /// Ends the transaction, and returns what explains its answers, and the client. Its pin, where it has one,
-    /// is not below the stamp that the bounds name. It can't be refused, and takes no memory.
+    /// Ends the transaction, and returns its receipt, and the client. If the receipt has a pin, its stamp is at
+    /// least that of the bounds. It cannot fail, and does not allocate.
     pub fn commit(self, rt: &impl Wait) -> (Receipt, Client<'a, A, C, J>)
         ensures answers { result.0.answers.items ≡ self.entry.txn.core.recorded }
         ensures pin { result.0.pin
@@ -143,24 +143,24 @@ impl<'a, A: App, C: Cacheable, J: Naming> RoTxn<'a, A, C, J> {
         (receipt, client)
     }
 
-    /// Gives the transaction up, and returns the client. It takes no memory.
+    /// Aborts the transaction, and returns the client. Does not allocate.
     pub fn abort(self, rt: &impl Wait) -> Client<'a, A, C, J>
         ensures { result ≡ client_of self.entry }
     {
-        // It only read: what is left to do is the same, and its receipt is not asked for.
+        // It only read, so the remaining work is the same as for a commit; the receipt is dropped.
         let (_receipt, client) = self.commit(rt);
         client
     }
 }
 
-// The stamps after the first ones, which are kept.
+// Returns the stamps after the first ones, which are kept.
 fn stamps_after(taken: &[Stamp], kept: usize) -> &[Stamp]
     ensures { result.now ≡ drop kept taken.now }
 {
     taken.get(kept..).unwrap_or(&[])
 }
 
-// Gives back the pins after the first ones, which are kept. Where there are none, it takes no lock.
+// Returns the pins after the first ones, which are kept. If there are none, it takes no lock.
 fn give_back_after<J: Naming>(
     rt: &impl Wait,
     cushion: &Pincushion<J>,

@@ -1,4 +1,4 @@
--- What crosses, as the cache sees it.
+-- The arguments and results of the C calls, as the cache sees them.
 use Rattle.std.specs.Prelude.{◌≡◌, ℕ, Bool, true, false, ◌&&◌, ◌==◌, nat_le, if◌then◌else◌, List, ◌++◌, take, drop, length, map, Option, Some, None}
 use Rattle.std.specs.List.{list_all}
 use Rattle.txc_stamp.specs.Interval.{Interval}
@@ -51,12 +51,12 @@ interval_of reach = record { lo = reach.lo; known = reach.known; still = reach.i
 abbrev pub is_stamp : ℕ → Bool
 is_stamp number = nat_le number MOST_STAMP
 
--- a node may be made for so many entries, and for the tags of so many events
+-- a node may be made with this capacity, and for the tags of this many recent events
 abbrev pub are_sizes : ℕ → ℕ → Bool
 are_sizes capacity recent =
     (nat_le 1 capacity && nat_le capacity MOST_CAPACITY) && (nat_le 1 recent && nat_le recent MAX_RECENT)
 
--- ---- the step that the arguments of a call ask for; none where one of them is none of its kind
+-- ---- the step that the arguments of a call request; none if an argument is malformed
 
 abbrev pub if_all : Bool → Op → Option Op
 if_all true op = Some op
@@ -92,7 +92,7 @@ sweep_asked horizon = if_all (is_stamp horizon) (Sweep horizon)
 
 -- ---- to C
 
--- the value, and after it what stood there, where the buffer has room for it
+-- the buffer with the value at its beginning, if the value fits; otherwise unchanged
 abbrev pub written_in : List ℕ → List ℕ → List ℕ
 written_in value buffer =
     if nat_le (length value) (length buffer) then value ++ drop (length value) buffer else buffer

@@ -1,4 +1,4 @@
-//! What crosses: keys, tags, reaches and counts as structs of numbers.
+//! Keys, tags, reaches and counts as structs of numbers for C.
 ghost use Rattle.std.specs.Prelude.{◌≡◌, length, map, true, false, if◌then◌else◌, is_some, Some, None, IfOk, IfSome};
 ghost use Rattle.std.specs.List.{list_all};
 ghost use Rattle.txc_tags.specs.Tags.{set_of};
@@ -29,7 +29,7 @@ pub struct TxcTag {
     pub number: u32,
 }
 
-/// A reach.
+/// A reach: the first and the last known stamp, and whether the result is still valid.
 #[repr(C)]
 #[derive(Clone, Copy)]
 pub struct TxcReach {
@@ -38,8 +38,8 @@ pub struct TxcReach {
     pub is_still: bool,
 }
 
-/// What an insertion stored: the reach after the replay, and the key and the first stamp of the entry that
-/// was dropped for it, if one was.
+/// Result of an insertion that stored its entry: the reach after the replay, and the key and the first stamp of
+/// the entry that was dropped for it, if one was.
 #[repr(C)]
 #[derive(Clone, Copy)]
 pub struct TxcStored {
@@ -49,7 +49,7 @@ pub struct TxcStored {
     pub evicted_lo: u32,
 }
 
-/// How often something was replied about the calls of one function.
+/// Counts of the replies about the calls of one function.
 #[repr(C)]
 #[derive(Clone, Copy)]
 pub struct TxcCounts {
@@ -67,14 +67,14 @@ impl TxcKey {
         args: [0; MAX_ARGS],
     };
 
-    /// Whether there is such a function, and it has no more arguments than a call may have.
+    /// Returns `true` if there is such a function, and it has no more arguments than a call may have.
     pub fn is_call(&self) -> bool
         ensures { result ≡ is_call self.now }
     {
         self.function <= LAST_FUNCTION && usize::from(self.count) <= MAX_ARGS
     }
 
-    /// The key; None if there is no such function, or it has too many arguments.
+    /// Returns the key, or `None` if there is no such function, or it has too many arguments.
     pub fn key(&self) -> Option<Key>
         ensures { result ≡ (if is_call self.now then Some (named_call self.now) else None) }
     {
@@ -85,7 +85,7 @@ impl TxcKey {
         Key::new(self.function, &self.args[..count]).ok()
     }
 
-    /// The struct of a key.
+    /// Returns the struct of a key.
     fn of(key: &Key) -> TxcKey
         ensures { named_call result ≡ key.now }
     {
@@ -101,14 +101,14 @@ impl TxcKey {
 }
 
 impl TxcTag {
-    /// Whether there is such a table and such a kind.
+    /// Returns `true` if there is such a table and such a kind.
     fn is_tag(&self) -> bool
         ensures { result ≡ is_tag self.now }
     {
         self.table <= LAST_TABLE && self.kind <= 2
     }
 
-    /// The tag.
+    /// Returns the tag.
     fn tag(&self) -> Tag
         requires { is_tag self.now ≡ true }
         ensures { result ≡ tag_of self.now }
@@ -122,21 +122,21 @@ impl TxcTag {
     }
 }
 
-/// Whether each of them is a tag.
+/// Returns `true` if each of them is a tag.
 pub fn are_tags(tags: &[TxcTag]) -> bool
     ensures { result ≡ list_all is_tag tags.now }
 {
     tags.iter().all(|tag| tag.is_tag())
 }
 
-/// Whether a caller may name such a stamp.
+/// Returns `true` if a caller may name such a stamp.
 fn is_stamp(number: u32) -> bool
     ensures { result ≡ is_stamp number }
 {
     number <= MOST_STAMP
 }
 
-/// Returns the stamp that a caller names; none if the number is above the greatest one.
+/// Returns the stamp of that number, or `None` if the number is above the greatest one.
 pub fn stamp_of(number: u32) -> Option<Stamp>
     ensures there { is_some result ≡ is_stamp number }
     ensures stamp { IfSome result (λ stamp. stamp ≡ number) }
@@ -147,14 +147,14 @@ pub fn stamp_of(number: u32) -> Option<Stamp>
     Some(Stamp::after(number as usize))
 }
 
-/// Whether each argument of an insertion is of its kind.
+/// Returns `true` if each argument of an insertion is in its range.
 pub fn is_insertion(key: &TxcKey, reach: &TxcReach, tags: &[TxcTag]) -> bool
     ensures { result ≡ is_insertion key.now reach.now tags.now }
 {
     key.is_call() && (is_stamp(reach.lo) && (is_stamp(reach.known) && are_tags(tags)))
 }
 
-/// The set of tags, each of which is one.
+/// Returns the set of these tags. Fails only if memory cannot be allocated.
 pub fn tags_of(alloc: Global, tags: &[TxcTag]) -> Result<TagSet, AllocError>
     requires { list_all is_tag tags.now ≡ true }
     ensures { IfOk result (λ set. set ≡ set_of (map tag_of tags.now)) }
@@ -167,7 +167,7 @@ pub fn tags_of(alloc: Global, tags: &[TxcTag]) -> Result<TagSet, AllocError>
 }
 
 impl TxcReach {
-    /// The struct of a reach.
+    /// Returns the struct of a reach.
     pub fn of(reach: Reach) -> TxcReach
         ensures { result ≡ crossing_reach reach }
     {
@@ -180,7 +180,7 @@ impl TxcReach {
 }
 
 impl TxcStored {
-    /// The struct of what an insertion did.
+    /// Returns the struct of an insertion that stored its entry.
     pub fn of(reach: Reach, evicted: &Option<Entry>) -> TxcStored
         ensures { TellsStored reach evicted.now result }
     {
@@ -203,7 +203,7 @@ impl TxcStored {
 }
 
 impl TxcCounts {
-    /// The struct of the counts of a function.
+    /// Returns the struct of the counts of a function.
     pub fn of(counts: FunctionCounts) -> TxcCounts
         ensures { result ≡ crossing_counts counts }
     {
@@ -217,14 +217,15 @@ impl TxcCounts {
     }
 }
 
-/// Whether a node may be made for so many entries, and for the tags of so many events.
+/// Returns `true` if a node may have this capacity, and store the tags of that many events.
 pub fn are_sizes(capacity: usize, recent: usize) -> bool
     ensures { result ≡ are_sizes capacity recent }
 {
     1 <= capacity && capacity <= MOST_CAPACITY && 1 <= recent && recent <= MAX_RECENT
 }
 
-/// Writes the bytes, where there is room for them, and how many they are.
+/// Writes the number of bytes to `len`, and the bytes to `value` if there is room. Returns `number`, or
+/// [`NO_ROOM`](crate::NO_ROOM) if there is not.
 pub fn tell(number: u32, bytes: &[u8], value: &mut [u8], len: &mut usize) -> u32
     ensures number { result ≡ bytes_number number (length value.old) bytes.now }
     ensures len { len.new ≡ length bytes.now }

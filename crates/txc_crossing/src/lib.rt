@@ -1,4 +1,5 @@
-//! What crosses to callers in C: keys, tags, reaches and counts as structs of numbers, and the numbers that calls return.
+//! Values that cross to callers in C: keys, tags, reaches and counts as structs of numbers, and the numbers
+//! that calls return.
 #![tactic(auto)]
 
 mod crossing;

@@ -4,45 +4,45 @@ ghost use Rattle.txc_crossing.specs.Numbers.{refusal_number};
 
 use txc_node::Refusal;
 
-/// It was done: a hit, an entry that was stored, an event that was taken.
+/// Success: a hit, a stored entry, an event that was taken.
 pub const DONE: u32 = 0;
 /// No entry of the key holds at a stamp of the range.
 pub const MISS: u32 = 1;
-/// The entry that is there ends no earlier, and stays.
+/// The old entry ends no earlier, and stays.
 pub const KEPT: u32 = 2;
 /// A hit whose value is longer than the buffer: its length is given.
 pub const NO_ROOM: u32 = 3;
 /// The handle has no node, or no site.
 pub const CLOSED: u32 = 4;
-/// The handle has a node or a site already.
+/// The handle already has a node or a site.
 pub const ALREADY_OPEN: u32 = 5;
-/// A number is none of its kind: of a function, a table, a stamp, a size.
+/// An argument is out of its range: a function, a table, a stamp, a size.
 pub const BAD_ARGUMENT: u32 = 6;
 /// The stamps of a lookup end before they begin.
 pub const EMPTY_RANGE: u32 = 7;
-/// An entry is known up to a stamp below its first.
+/// The last known stamp of an entry is below its first.
 pub const BAD_REACH: u32 = 8;
-/// The event is not the one after the last that was taken.
+/// The event does not directly follow the last one that was taken.
 pub const OUT_OF_ORDER: u32 = 9;
-/// A value is longer than a node takes.
+/// The value is longer than a node stores.
 pub const VALUE_TOO_LONG: u32 = 10;
-/// Memory was refused.
+/// Memory cannot be allocated.
 pub const NO_MEMORY: u32 = 11;
 
-/// The caller is to compute the function of the call that it asked for.
+/// The caller must compute the function of the call that it requested.
 pub const COMPUTE: u32 = 12;
-/// The function that is computed has its answer, and goes on.
+/// The function being computed has its answer, and continues.
 pub const ANSWERED: u32 = 13;
-/// No transaction of that number is open of which this can be asked, or no function is computed.
+/// No transaction of that number is open for this call, or no function is being computed.
 pub const NOT_OPEN: u32 = 14;
 /// A call is open.
 pub const MID_CALL: u32 = 15;
-/// The call, or what was asked, was refused; or none can begin.
+/// The call or the operation failed, or no transaction can begin.
 pub const REFUSED: u32 = 16;
-/// What was read has changed.
+/// A commit conflicts: what the transaction has read was changed since.
 pub const CONFLICT: u32 = 18;
 
-/// The number of a refusal.
+/// Returns the number of an error.
 pub fn number_of(refusal: Refusal) -> u32
     ensures { result ≡ refusal_number refusal }
 {

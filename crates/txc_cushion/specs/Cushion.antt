@@ -1,4 +1,4 @@
--- What callers see of a pincushion, and what its calls make of it.
+-- The value of a pincushion in contracts, and the effects of its calls.
 use Rattle.std.specs.Prelude.{◌≡◌, ℕ, ◌≤◌, nat_lt, not, List, [], length, map, filter, take, reverse, All, Some, if◌then◌else◌}
 use Rattle.txc_stream.specs.Names.{Name}
 use Rattle.txc_db.specs.declared.pinned.Pinned.{Pinned}
@@ -10,21 +10,21 @@ use Rattle.txc_cushion.specs.declared.limits.TheConstants.{MAX_HANDED_OUT, MAX_P
 use Rattle.txc_cushion.specs.Pinning.{pin_of}
 use Rattle.txc_cushion.specs.Entries.{pins_of, stamps_of, EntriesFall, may_be_handed_out, with_user, without_users, with_entry, is_retirable}
 
--- the names of the cells for the events of its database; what its front shows of the history; and the pins,
--- the newest first, each with its users
+-- the identity of its database's history; the part of the history that its front shows; and the pins, the
+-- newest first, each with its users
 pub record CushionValue : Type 0 where
   pub events : Name
   pub history : History
   pub entries : List PinEntry
 
--- what is true of every pincushion: its newest pin stands first, its history shows each, and there are no
--- more than there may be
+-- invariant of a pincushion: its pins descend from the newest, its history shows each, and there are no more
+-- than allowed
 pub record IsCushion (c : CushionValue) : Type 0 where
   pub falls : EntriesFall c.entries
   pub shown : All (λ e. moment_at c.history e.pin.stamp ≡ Some e.pin.moment) c.entries
   pub few : length c.entries ≤ MAX_PINS
 
--- what its front shows
+-- the value of its front
 abbrev pub cushion_front : CushionValue → FrontValue
 cushion_front c = record { events = c.events; history = c.history }
 
@@ -34,7 +34,7 @@ empty_cushion front = record { events = front.events; history = front.history; e
 
 -- ---- fresh pins
 
--- of the pins that may be handed out the newest, as many as are handed out at a time
+-- the newest of the pins that may be issued, at most as many as are issued at a time
 abbrev pub handed_out : CushionValue → ℕ → ℕ → ℕ → List Pin
 handed_out c now staleness at_least =
     pins_of (take MAX_HANDED_OUT (filter (may_be_handed_out now staleness at_least) c.entries))
@@ -50,7 +50,7 @@ after_fresh c now staleness at_least =
 abbrev pub longer_of : History → History → History
 longer_of a b = if nat_lt (length a) (length b) then b else a
 
--- one pin more, with one user, and the history of the front that shows it, where that is longer
+-- one pin more, with one user, and the history of the front that shows it, if that is longer
 abbrev pub after_add : CushionValue → Pinned → CushionValue
 after_add c pinned = record c {
   history = longer_of c.history pinned.front.history;

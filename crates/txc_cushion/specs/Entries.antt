@@ -6,7 +6,7 @@ use Rattle.txc_cushion.specs.declared.entry.PinEntry.{PinEntry}
 use Rattle.txc_cushion.specs.declared.limits.TheConstants.{MAX_USERS}
 use Rattle.txc_cushion.specs.Pinning.{is_older}
 
--- the pins alone
+-- the pins without their users
 abbrev pub pins_of : List PinEntry → List Pin
 pins_of entries = map (λ e. e.pin) entries
 
@@ -18,20 +18,20 @@ stamps_of entries = map (λ e. e.pin.stamp) entries
 abbrev pub EntriesFall : List PinEntry → Type 0
 EntriesFall entries = AllPairs (λ newer older. older.pin.stamp < newer.pin.stamp) entries
 
--- a pin of this stamp is there
+-- there is a pin of this stamp
 abbrev pub is_pinned : ℕ → List PinEntry → Bool
 is_pinned stamp entries = list_any (λ e. e.pin.stamp == stamp) entries
 
--- how many may use the pin of this stamp; none where it isn't there
+-- the number of users of the pin of this stamp; 0 if there is none
 abbrev pub users_of : ℕ → List PinEntry → ℕ
 users_of stamp [] = 0
 users_of stamp (e ∷ es) = if e.pin.stamp == stamp then e.users else users_of stamp es
 
--- how often the stamp is named
+-- the number of times that the stamp is in the list
 abbrev pub times : ℕ → List ℕ → ℕ
 times stamp stamps = count_by (λ s. s == stamp) stamps
 
--- ---- handed out
+-- ---- issued
 
 -- it is fresh: its moment is no more than `staleness` before `now`; its stamp isn't below the one asked for;
 -- and one more may use it
@@ -43,13 +43,13 @@ may_be_handed_out now staleness at_least e =
 abbrev pub is_among : ℕ → List Pin → Bool
 is_among stamp pins = list_any (λ p. p.stamp == stamp) pins
 
--- one user more, where its pin is handed out
+-- one user more, if its pin is issued
 abbrev pub with_user : List Pin → PinEntry → PinEntry
 with_user pins e = if is_among e.pin.stamp pins then record e { users = e.users + 1 } else e
 
--- ---- given back, added and retired
+-- ---- returned, added and retired
 
--- the stamps stand among those of the entries in this order, each with a user
+-- the stamps are among those of the entries in this order, each with a user
 abbrev pub stand_in_order : List PinEntry → List ℕ → Bool
 stand_in_order entries [] = true
 stand_in_order [] (s ∷ ss) = false

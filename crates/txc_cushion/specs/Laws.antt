@@ -1,4 +1,4 @@
--- What the calls of a pincushion do, stamp by stamp.
+-- Effects of the calls of a pincushion, stamp by stamp.
 use Rattle.std.specs.Prelude.{◌≡◌, ℕ, ◌+◌, ◌<◌, ◌≤◌, ◌==◌, true, false, List, length, map, All, Contains, if◌then◌else◌}
 use Rattle.txc_db.specs.declared.pinned.Pinned.{Pinned}
 use Rattle.txc_cushion.specs.declared.entry.PinEntry.{PinEntry}
@@ -15,7 +15,7 @@ PinsEachStampOnce = (c : CushionValue) (stamp : ℕ) → IsCushion c
 
 -- ---- fresh pins
 
--- each stamp that is handed out has one user more, and no pin comes or goes
+-- each issued stamp has one more user, and no pin is added or removed
 pub record CountsFreshUsers (c : CushionValue) (now staleness at_least stamp : ℕ) : Type 0 where
   pub users : users_of stamp (after_fresh c now staleness at_least).entries
       ≡ users_of stamp c.entries + times stamp (map (λ p. p.stamp) (handed_out c now staleness at_least))
@@ -25,8 +25,7 @@ abbrev pub FreshCountsUsers : Type 0
 FreshCountsUsers = (c : CushionValue) (now staleness at_least stamp : ℕ) → IsCushion c
     → CountsFreshUsers c now staleness at_least stamp
 
--- a pin that may be handed out and is not is older than all that are, and there are as many of these as may
--- be
+-- a pin that may be issued and is not is older than all issued ones, and the maximum was issued
 abbrev pub HandsOutTheNewest : Type 0
 HandsOutTheNewest = (c : CushionValue) (now staleness at_least : ℕ) (e : PinEntry) → IsCushion c
     → Contains c.entries e → may_be_handed_out now staleness at_least e ≡ true
@@ -34,7 +33,7 @@ HandsOutTheNewest = (c : CushionValue) (now staleness at_least : ℕ) (e : PinEn
     → (length (handed_out c now staleness at_least) ≡ MAX_HANDED_OUT)
     × All (λ p. e.pin.stamp < p.stamp) (handed_out c now staleness at_least)
 
--- ---- pins added, given back and retired
+-- ---- pins added, returned and retired
 
 -- the stamp of the pin has one pin and one user more
 pub record CountsAddedPin (c : CushionValue) (pinned : Pinned) (stamp : ℕ) : Type 0 where
@@ -56,7 +55,7 @@ abbrev pub GiveBackCountsUsers : Type 0
 GiveBackCountsUsers = (c : CushionValue) (given : List ℕ) (stamp : ℕ) → HaveUsers c.entries given
     → CountsGivenBack c given stamp
 
--- the stamps that are answered are those whose pins are gone; they had no users, and no stamp loses one
+-- the returned stamps are those whose pins are removed; they had no users, and no stamp loses one
 pub record CountsRetired (c : CushionValue) (now age stamp : ℕ) : Type 0 where
   pub stamps : times stamp (stamps_of (after_retire c now age).entries) + times stamp (retired c now age)
       ≡ times stamp (stamps_of c.entries)

@@ -1,4 +1,4 @@
--- When the calls of a pincushion are refused.
+-- Errors of the calls of a pincushion.
 use Rattle.std.specs.Prelude.{◌≡◌, ℕ, ◌<◌, ◌≤◌, true, false, List, length, take, Some, slice_get}
 use Rattle.txc_cushion.specs.declared.error.AddError.{AddError}
 use Rattle.txc_cushion.specs.declared.error.AddError.TheVariants.{Full, Known, Memory}
@@ -7,12 +7,12 @@ use Rattle.txc_cushion.specs.declared.limits.TheConstants.{MAX_PINS}
 use Rattle.txc_cushion.specs.Entries.{is_pinned, users_of, times}
 use Rattle.txc_cushion.specs.Cushion.{CushionValue}
 
--- there is room for a pin, and none of this stamp is there
+-- there is room for a pin, and none of this stamp exists
 pub record IsAddable (c : CushionValue) (stamp : ℕ) : Type 0 where
   pub room : length c.entries < MAX_PINS
   pub absent : is_pinned stamp c.entries ≡ false
 
--- of a pin: full, or the stamp is there already; and then out of memory
+-- of a pin: full, or the stamp has one already; and then no memory
 abbrev pub IsAddRefused : CushionValue → ℕ → AddError → Type 0
 IsAddRefused c stamp Full = length c.entries ≡ MAX_PINS
 IsAddRefused c stamp (Known named) = (length c.entries < MAX_PINS) × (is_pinned stamp c.entries ≡ true)

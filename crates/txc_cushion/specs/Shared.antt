@@ -1,4 +1,4 @@
--- What a call of the shared pincushion answers.
+-- Results of the shared pincushion.
 use Rattle.std.specs.Prelude.{◌≡◌, ℕ, List}
 use Rattle.txc_stream.specs.Names.{Name}
 use Rattle.txc_cushion.specs.Cushion.{CushionValue, IsCushion}

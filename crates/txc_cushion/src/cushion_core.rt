@@ -1,4 +1,4 @@
-//! The pincushion for one thread, which its lock holds too.
+//! The pincushion for one thread, which the lock of a shared one holds.
 ghost use Rattle.std.specs.Prelude.{◌≡◌, ◌≤◌, ◌↔◌, All, IfOk, OnOk, OnErr, IfErr, IsOk};
 ghost use Rattle.txc_db.specs.History.{IsAllowed};
 ghost use Rattle.txc_cushion.specs.Refusals.{IsAddable, IsAddRefused, HaveUsers, IsFirstUnused};
@@ -19,9 +19,9 @@ use txc_stamp::Stamp;
 
 /// The pinned stamps of a history that transactions may use, for one thread.
 ///
-/// It is a map from stamps to the moments of their pins and to how many transactions may use each. Its front
-/// shows each of its pins, so that what it hands out proves itself. Contracts see the pins, the newest first,
-/// and what the front shows.
+/// It maps stamps to the wall-clock times of their pins and to the number of transactions that may use each.
+/// Its front shows each of its pins, and so proves the pins that it issues. Contracts see the pins, the newest
+/// first, and the front.
 #[derive(Drop)]
 pub struct CushionCore {
     front: HistoryFront,
@@ -42,7 +42,7 @@ impl Model for CushionCore {
 impl CushionCore {
     ghost use Rattle.txc_cushion.specs.Cushion.{IsCushion, cushion_front, empty_cushion, handed_out, after_fresh, after_add, after_give_back, retired, after_retire};
 
-    /// A pincushion with no pin, for the pins of the front's row.
+    /// Makes a pincushion without pins, for the history of the front.
     pub fn new(alloc: Global, front: HistoryFront) -> CushionCore
         ensures { result ≡ empty_cushion front }
     {
@@ -52,18 +52,18 @@ impl CushionCore {
         }
     }
 
-    /// What holds of every pincushion: its newest pin stands first, and its history shows each. It does
-    /// nothing when it runs.
+    /// In every pincushion the pins descend from the newest, and the history shows each. This is a lemma: it
+    /// does nothing when it runs.
     pub fn is_cushion(&self)
         ensures { IsCushion self.now }
     {
         let _entries = &self.entries;
     }
 
-    /// Hands out the newest of the fresh pins, at most [`crate::MAX_HANDED_OUT`], and counts one user more
-    /// for each. A pin is fresh where its moment is no more than `staleness` before `now`, all in
-    /// milliseconds, and its stamp is not below `at_least`. One with [`crate::MAX_USERS`] users is passed
-    /// over.
+    /// Issues the newest of the fresh pins, at most [`crate::MAX_HANDED_OUT`], and counts one more user for
+    /// each. A pin is fresh if its time is no more than `staleness` before `now`, all in milliseconds, and its
+    /// stamp is at least `at_least`. It skips pins with [`crate::MAX_USERS`] users. Fails, and changes nothing,
+    /// only if memory cannot be allocated.
     pub fn fresh(
         &mut self,
         alloc: Global,
@@ -84,8 +84,8 @@ impl CushionCore {
         Ok(Pins { pins, front })
     }
 
-    /// Adds a pin of the front's row, with one user. From then on the front shows what the front of the pin
-    /// shows.
+    /// Adds a pin of the same history, with one user, and takes over its front. Fails if there are
+    /// [`crate::MAX_PINS`] pins, if the stamp is pinned already, or if memory cannot be allocated.
     pub fn add(&mut self, pinned: &Pinned) -> Result<(), AddError>
         requires { pinned.now.front.events ≡ self.old.events }
         ensures after { OnOk result (self.new ≡ after_add self.old pinned.now) }
@@ -104,7 +104,8 @@ impl CushionCore {
         Ok(())
     }
 
-    /// Takes one user away for each stamp named. It takes no memory.
+    /// Removes one user for each stamp in the list. Fails, and changes nothing, if a stamp has no user left.
+    /// Does not allocate.
     pub fn give_back(&mut self, stamps: &[Stamp]) -> Result<(), UnknownPin>
         ensures after { OnOk result (self.new ≡ after_give_back self.old stamps.now) }
         ensures only_if { IsOk result → HaveUsers self.old.entries stamps.now }
@@ -116,8 +117,8 @@ impl CushionCore {
         Ok(())
     }
 
-    /// Takes out the pins that no transaction may use and whose moment is more than `age` before `now`, all
-    /// in milliseconds. It answers their stamps, the least first.
+    /// Removes the pins without users whose time is more than `age` before `now`, all in milliseconds. Returns
+    /// their stamps in ascending order. Fails, and changes nothing, only if memory cannot be allocated.
     pub fn retire(&mut self, alloc: Global, now: u64, age: u64) -> Result<Vec<Stamp>, AllocError>
         ensures after { OnOk result (self.new ≡ after_retire self.old now age) }
         ensures answer { IfOk result (λ stamps. stamps.items ≡ retired self.old now age) }

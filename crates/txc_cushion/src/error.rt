@@ -1,21 +1,22 @@
 ghost use Rattle.std.specs.Fmt.{WritesOnOk};
 ghost use Rattle.txc_cushion.specs.Codes.{add_code};
 
+use crate::limits::MAX_PINS;
 use std::alloc::AllocError;
 use std::fmt;
 use thiserror::Error;
 use txc_stamp::Stamp;
 
-/// Why a pin was not added. Nothing changed.
+/// Errors of adding a pin. After an error nothing has changed.
 #[derive(Clone, Copy, Debug, PartialEq, Eq, Error)]
 pub enum AddError {
-    /// There are as many pins as there may be.
-    #[error("the pincushion is full")]
+    /// The pincushion has [`crate::MAX_PINS`] pins.
+    #[error("the pincushion has {MAX_PINS} pins, and no more can be added")]
     Full,
-    /// A pin of this stamp is there already.
+    /// This stamp has a pin already.
     #[error("stamp {0} is pinned already")]
     Known(Stamp),
-    /// A growth was refused.
+    /// Memory cannot be allocated.
     #[error("out of memory")]
     Memory,
 }
@@ -44,9 +45,9 @@ impl From<AllocError> for AddError {
     }
 }
 
-/// The first stamp given back that is not there, or that has no user left at its place. Nothing changed.
+/// The first returned stamp without a pin, or whose pin has no user left. Nothing has changed.
 #[derive(Clone, Copy, Debug, PartialEq, Eq, Error)]
-#[error("stamp {stamp} has no user to give back")]
+#[error("the pin of stamp {stamp} has no user left")]
 pub struct UnknownPin {
     pub stamp: Stamp,
 }

@@ -1,4 +1,4 @@
-//! The pins that are handed out.
+//! Issuing pins.
 ghost use Rattle.std.specs.Prelude.{◌≡◌, ◌+◌, ◌≤◌, ◌++◌, ◌∷◌, [], map, filter, take, nat_lt, ◌&&◌, if◌then◌else◌, length, IfOk, OnOk, OnErr, vec_capacity};
 ghost use Rattle.txc_cushion.specs.Entries.{EntriesFall, pins_of, may_be_handed_out, with_user};
 ghost use Rattle.txc_cushion.specs.declared.limits.TheConstants.{MAX_HANDED_OUT};
@@ -9,8 +9,7 @@ use crate::pin::Pin;
 use std::alloc::{AllocError, Global};
 use txc_stamp::Stamp;
 
-// Hands out the pin of the entry, which has one user more then: where it may be handed out, and not as many
-// are as are handed out at a time.
+// Issues the pin of the entry, and counts one more user, if it may be issued and fewer than the maximum are.
 fn hand_out_one(
     entry: &mut PinEntry,
     pins: &mut Vec<Pin>,
@@ -33,7 +32,7 @@ fn hand_out_one(
     }
 }
 
-// Hands out the newest that may be, in one pass.
+// Issues the newest pins that may be issued, in one pass.
 fn hand_out_each(
     entries: &mut [PinEntry],
     pins: &mut Vec<Pin>,
@@ -54,8 +53,8 @@ fn hand_out_each(
     }
 }
 
-/// Hands out the newest of the pins that may be handed out, as many as are handed out at a time, and counts
-/// one user more for each.
+/// Issues the newest of the pins that may be issued, at most [`MAX_HANDED_OUT`], and counts one more user for
+/// each. Fails, and changes nothing, only if memory cannot be allocated.
 pub(crate) fn hand_out(
     alloc: Global,
     entries: &mut Vec<PinEntry>,

@@ -1,4 +1,5 @@
-//! The pincushion: the pinned snapshots of a database's history, and how many transactions may use each.
+//! The pincushion: the pinned snapshots of a database's history, and the number of transactions that may use
+//! each.
 #![tactic(auto)]
 
 mod cushion_core;

@@ -1,4 +1,4 @@
-//! What is done to the pincushion under its lock.
+//! The pincushion's calls under its lock.
 ghost use Rattle.std.specs.Prelude.{◌≡◌, All, IfOk, OnOk, OnErr, IfErr};
 ghost use Rattle.txc_db.specs.History.{IsAllowed};
 ghost use Rattle.txc_cushion.specs.Cushion.{IsCushion, cushion_front, handed_out, after_fresh, after_add, after_give_back, retired, after_retire};
@@ -12,7 +12,7 @@ use std::marker::{Model, PhantomData};
 use txc_db::{Naming, Pinned};
 use txc_stamp::Stamp;
 
-/// What lies under the lock: a pincushion of the named row.
+/// The content of the lock: a pincushion of the named history.
 #[derive(Drop)]
 pub(crate) struct Locked<J: Naming> {
     core: CushionCore,

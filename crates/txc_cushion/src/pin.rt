@@ -4,14 +4,14 @@ ghost use Rattle.txc_cushion.specs.Pinning.{pin_of};
 use txc_db::Pinned;
 use txc_stamp::Stamp;
 
-/// A pinned stamp of a history, and the moment of its pin in milliseconds.
+/// A pinned stamp of a history, and the wall-clock time of its pin in milliseconds.
 #[derive(Clone, Copy, Debug, PartialEq, Eq)]
 pub struct Pin {
     pub stamp: Stamp,
     pub moment: u64,
 }
 
-/// The stamp and the moment of a pin of the database.
+/// Returns the stamp and the time of a pin of the database.
 pub fn pin_of(pinned: &Pinned) -> Pin
     ensures { result ≡ pin_of pinned.now }
 {
@@ -24,7 +24,8 @@ pub fn pin_of(pinned: &Pinned) -> Pin
 impl Pin {
     ghost use Rattle.txc_cushion.specs.Pinning.{is_older};
 
-    /// Whether its moment is more than `age` before `now`, all in milliseconds. The sum may exceed 64 bits.
+    /// Returns `true` if its time is more than `age` before `now`, all in milliseconds. The sum may exceed 64
+    /// bits.
     pub fn is_older(self, age: u64, now: u64) -> bool
         ensures { result ≡ is_older age now self }
     {

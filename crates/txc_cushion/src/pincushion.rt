@@ -11,19 +11,18 @@ use crate::locked::Locked;
 use crate::pins::Pins;
 use std::alloc::{AllocError, Global};
 use std::sync::{Mutex, Wait};
-use txc_db::{Database, Naming, Pinned};
-use txc_lock::lock_soon;
+use txc_db::{Database, Naming, Pinned, lock_soon};
 use txc_stamp::Stamp;
 
 /// A pincushion that threads share.
 ///
-/// Each call waits for the lock, does the call of [`CushionCore`] of its name, and refuses as that does, for
-/// some pincushion of the named row. What it hands out, the front beside it shows.
+/// Each call waits for the lock, does the call of [`CushionCore`] of the same name, and fails as that does, for
+/// some pincushion of the named history. The front next to issued pins shows them.
 pub struct Pincushion<J: Naming> {
     lock: Mutex<Locked<J>>,
 }
 
-// Not derived: a derived one is proved again in each crate above.
+// Not derived, since a derived one would be proved again in each crate above.
 impl<J: Naming> Drop for Pincushion<J> {
     fn drop(self) {
         let Pincushion { lock: _ } = self;
@@ -31,12 +30,12 @@ impl<J: Naming> Drop for Pincushion<J> {
 }
 
 impl<J: Naming> Pincushion<J> {
-    /// A pincushion with no pin, for the pins of the database.
+    /// Makes a pincushion without pins, for those of the database. Fails only if memory cannot be allocated.
     pub fn new(alloc: Global, database: &Database<J>) -> Result<Pincushion<J>, AllocError> {
         Ok(Pincushion::of_core(CushionCore::new(alloc, database.reader()?)))
     }
 
-    /// A pincushion with what the core has, whose pins are those of the named row.
+    /// Makes a pincushion with the pins of the core, which are of the named history.
     pub fn of_core(core: CushionCore) -> Pincushion<J>
         requires { core.events ≡ J.database_history }
     {
@@ -45,9 +44,9 @@ impl<J: Naming> Pincushion<J> {
         }
     }
 
-    /// Hands out the newest of the fresh pins, at most [`crate::MAX_HANDED_OUT`], and counts one user more
-    /// for each. Each is a pin of the front's history whose moment is no more than `staleness` before `now`,
-    /// all in milliseconds, and whose stamp is not below `at_least`.
+    /// Issues the newest of the fresh pins, at most [`crate::MAX_HANDED_OUT`], and counts one more user for
+    /// each. Each is a pin of the front's history whose time is no more than `staleness` before `now`, all in
+    /// milliseconds, and whose stamp is at least `at_least`. Fails only if memory cannot be allocated.
     pub fn fresh(
         &self,
         rt: &impl Wait,
@@ -65,7 +64,8 @@ impl<J: Naming> Pincushion<J> {
         lock_soon(rt, &self.lock).fresh(alloc, now, staleness, at_least)
     }
 
-    /// Adds a pin, with one user.
+    /// Adds a pin, with one user. Fails if there are [`crate::MAX_PINS`] pins, if the stamp is pinned already,
+    /// or if memory cannot be allocated.
     pub fn add(&self, rt: &impl Wait, pinned: &Pinned) -> Result<(), AddError>
         requires { pinned.now.front.events ≡ J.database_history }
         ensures refused { IfErr result (CushionMayAnswer J.database_history (λ c.
@@ -74,7 +74,8 @@ impl<J: Naming> Pincushion<J> {
         lock_soon(rt, &self.lock).add(pinned)
     }
 
-    /// Takes one user away for each stamp named. It takes no memory.
+    /// Removes one user for each stamp in the list. Fails, and changes nothing, if a stamp has no user left.
+    /// Does not allocate.
     pub fn give_back(&self, rt: &impl Wait, stamps: &[Stamp]) -> Result<(), UnknownPin>
         ensures refused { IfErr result (CushionMayAnswer J.database_history (λ c unknown.
             IsFirstUnused c.entries stamps.now unknown.stamp)) }
@@ -82,8 +83,8 @@ impl<J: Naming> Pincushion<J> {
         lock_soon(rt, &self.lock).give_back(stamps)
     }
 
-    /// Takes out the pins that no transaction may use and whose moment is more than `age` before `now`, all
-    /// in milliseconds. It answers their stamps, the least first.
+    /// Removes the pins without users whose time is more than `age` before `now`, all in milliseconds. Returns
+    /// their stamps in ascending order. Fails only if memory cannot be allocated.
     pub fn retire(
         &self,
         rt: &impl Wait,

@@ -6,8 +6,7 @@ ghost use Rattle.txc_cushion.specs.declared.limits.TheConstants.{MAX_HANDED_OUT}
 use crate::pin::Pin;
 use txc_db::HistoryFront;
 
-/// The pins that a transaction was handed, the newest first, and a front of the history that shows each of
-/// them.
+/// The pins issued to a transaction, the newest first, and a front of the history that shows each of them.
 #[derive(Drop)]
 pub struct Pins {
     pub pins: Vec<Pin>,

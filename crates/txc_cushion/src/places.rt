@@ -1,4 +1,4 @@
-//! Where a stamp stands among the pins in a list.
+//! Places of stamps among the pins in a list.
 ghost use Rattle.std.specs.Prelude.{◌≡◌, ◌≤◌, nat_lt, false, length, filter, OnOk, OnErr};
 ghost use Rattle.txc_cushion.specs.Entries.{EntriesFall, is_pinned, with_entry};
 
@@ -7,14 +7,14 @@ use crate::pin::Pin;
 use std::alloc::AllocError;
 use txc_stamp::Stamp;
 
-/// Whether a pin of this stamp is there.
+/// Returns `true` if there is a pin of this stamp.
 pub(crate) fn is_pinned(entries: &[PinEntry], stamp: Stamp) -> bool
     ensures { result ≡ is_pinned stamp entries.now }
 {
     entries.iter().any(|entry| entry.pin.stamp == stamp)
 }
 
-// How many pins have greater stamps.
+// Returns how many pins have greater stamps.
 fn count_newer(entries: &[PinEntry], stamp: Stamp) -> usize
     ensures count { result ≡ length (filter (λ e. nat_lt stamp e.pin.stamp) entries.now) }
     ensures most { result ≤ length entries.now }
@@ -25,7 +25,8 @@ fn count_newer(entries: &[PinEntry], stamp: Stamp) -> usize
         .count()
 }
 
-/// Puts a pin with one user after those with greater stamps.
+/// Inserts a pin with one user after those with greater stamps. Fails, and changes nothing, only if memory
+/// cannot be allocated.
 pub(crate) fn put(entries: &mut Vec<PinEntry>, pin: Pin) -> Result<(), AllocError>
     requires falls { EntriesFall entries.old.items }
     requires absent { is_pinned pin.stamp entries.old.items ≡ false }

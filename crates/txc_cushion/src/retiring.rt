@@ -1,4 +1,4 @@
-//! The pins that are retired.
+//! Retiring pins.
 ghost use Rattle.std.specs.Prelude.{◌≡◌, not, filter, reverse, IfOk};
 ghost use Rattle.txc_cushion.specs.Entries.{stamps_of, is_retirable};
 
@@ -6,7 +6,8 @@ use crate::entry::PinEntry;
 use std::alloc::{AllocError, Global};
 use txc_stamp::Stamp;
 
-/// The stamps of the pins that may be retired, the least first.
+/// Returns the stamps of the pins that may be retired, in ascending order. Fails only if memory cannot be
+/// allocated.
 pub(crate) fn retirable(
     alloc: Global,
     entries: &[PinEntry],
@@ -24,7 +25,7 @@ pub(crate) fn retirable(
         .collect(alloc)
 }
 
-/// Takes out the pins that may be retired.
+/// Removes the pins that may be retired.
 pub(crate) fn retire(entries: &mut Vec<PinEntry>, now: u64, age: u64)
     ensures { entries.new.items ≡ filter (λ e. not (is_retirable now age e)) entries.old.items }
 {

@@ -1,4 +1,4 @@
-//! The users of pins that are given back.
+//! Users of returned pins.
 ghost use Rattle.std.specs.Prelude.{◌≡◌, ◌+◌, ◌-◌, ◌<◌, ◌≤◌, ◌==◌, ◌&&◌, nat_lt, if◌then◌else◌, All, map, length, slice_index_or, true, OnErr, OnOk, IfErr};
 ghost use Rattle.txc_cushion.specs.Entries.{stand_in_order, users_of, times, without_users, EntriesFall};
 ghost use Rattle.txc_cushion.specs.Refusals.{HaveUsers, IsFirstUnused};
@@ -7,7 +7,7 @@ use crate::entry::PinEntry;
 use crate::error::UnknownPin;
 use txc_stamp::Stamp;
 
-// How often the stamp is named.
+// Returns how many times the stamp is in the list.
 fn times(stamp: Stamp, stamps: &[Stamp]) -> usize
     ensures count { result ≡ times stamp stamps.now }
     ensures most { result ≤ length stamps.now }
@@ -15,7 +15,7 @@ fn times(stamp: Stamp, stamps: &[Stamp]) -> usize
     stamps.iter().filter(|s| **s == stamp).count()
 }
 
-// How many may use the pin of this stamp; none where it isn't there.
+// Returns how many users the pin of this stamp has, or `None` if there is no pin of it.
 fn users_of(entries: &[PinEntry], stamp: Stamp) -> u16
     ensures { result ≡ users_of stamp entries.now }
 {
@@ -27,7 +27,7 @@ fn users_of(entries: &[PinEntry], stamp: Stamp) -> u16
     0
 }
 
-// Refuses stamps of which one has no user left at its place.
+// Fails if a stamp in the list has no user left.
 fn check_users(entries: &[PinEntry], stamps: &[Stamp]) -> Result<(), UnknownPin>
     ensures only_if { OnOk result (HaveUsers entries.now stamps.now) }
     ensures refused { IfErr result (λ e. IsFirstUnused entries.now stamps.now e.stamp) }
@@ -40,7 +40,7 @@ fn check_users(entries: &[PinEntry], stamps: &[Stamp]) -> Result<(), UnknownPin>
     Ok(())
 }
 
-// A user of the entry fewer for each time that its stamp is named.
+// Removes one user of the entry for each time that its stamp is in the list.
 fn take_users_of(entry: &mut PinEntry, stamps: &[Stamp])
     requires { times entry.old.pin.stamp stamps.now ≤ entry.old.users }
     ensures { entry.new ≡ without_users stamps.now entry.old }
@@ -49,7 +49,7 @@ fn take_users_of(entry: &mut PinEntry, stamps: &[Stamp])
     entry.users = users - times(pin.stamp, stamps) as u16;
 }
 
-// Each entry has a user fewer for each time that its stamp is named.
+// Removes one user of each entry for each time that its stamp is in the list.
 fn take_users_each(entries: &mut [PinEntry], stamps: &[Stamp])
     requires { All (λ e. times e.pin.stamp stamps.now ≤ e.users) entries.old }
     ensures { entries.new ≡ map (without_users stamps.now) entries.old }
@@ -59,7 +59,7 @@ fn take_users_each(entries: &mut [PinEntry], stamps: &[Stamp])
     }
 }
 
-// Whether the stamps stand among those of the entries in this order, each with a user.
+// Returns `true` if the stamps are among those of the entries in this order, each with a user.
 fn stand_in_order(entries: &[PinEntry], stamps: &[Stamp]) -> bool
     ensures { result ≡ stand_in_order entries.now stamps.now }
 {
@@ -75,8 +75,8 @@ fn stand_in_order(entries: &[PinEntry], stamps: &[Stamp]) -> bool
     found == stamps.len()
 }
 
-// Takes a user of the entry away, where its stamp is the one after those that were found. It answers how many
-// were found by then.
+// Removes a user of the entry if its stamp is the next one in the list. Returns how many stamps were found by
+// then.
 fn take_found(entry: &mut PinEntry, stamps: &[Stamp], found: usize) -> usize
     requires { nat_lt found (length stamps.now) && (entry.old.pin.stamp == slice_index_or stamps.now found 0) ≡ true
         → 0 < entry.old.users }
@@ -94,7 +94,7 @@ fn take_found(entry: &mut PinEntry, stamps: &[Stamp], found: usize) -> usize
     found
 }
 
-// Takes a user away for each of the stamps, which stand so, in one pass.
+// Removes one user for each of the stamps in one pass; the stamps are in the order of the entries.
 fn take_users_in_order(entries: &mut [PinEntry], stamps: &[Stamp])
     requires falls { EntriesFall entries.old }
     requires order { stand_in_order entries.old stamps.now ≡ true }
@@ -106,8 +106,8 @@ fn take_users_in_order(entries: &mut [PinEntry], stamps: &[Stamp])
     }
 }
 
-/// Takes a user away for each time that a stamp is named, in one pass where they are named in the order in
-/// which they are handed out. Refuses stamps of which one has no user left at its place.
+/// Removes one user for each stamp in the list, in one pass if the stamps are in the order in which they were
+/// issued. Fails, and changes nothing, if a stamp has no user left.
 pub(crate) fn give_back(entries: &mut Vec<PinEntry>, stamps: &[Stamp]) -> Result<(), UnknownPin>
     requires { EntriesFall entries.old.items }
     ensures after { OnOk result (entries.new.items ≡ map (without_users stamps.now) entries.old.items) }

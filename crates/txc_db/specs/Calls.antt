@@ -1,4 +1,4 @@
--- When the calls of a database are refused, and what a refusal leaves.
+-- Errors of the calls of a database, and the database after them.
 use Rattle.std.specs.Prelude.{◌≡◌, ◌≢◌, ◌⊎◌, ⊤, ℕ, ◌+◌, ◌<◌, ◌≤◌, true, false, List, [], length, filter}
 use Rattle.std.specs.List.{Contains}
 use Rattle.txc_tags.specs.declared.tag.Tag.{Tag}
@@ -16,8 +16,8 @@ use Rattle.txc_db.specs.DatabaseValue.{DatabaseValue, newest, newest_net, next_h
 use Rattle.txc_db.specs.Room.{events_room, AreTagsKept, AreTagsGone}
 use Rattle.txc_db.specs.Refusals.{IsOwn, IsConflict, NoneMatches}
 
--- the call found another record in the row after the history: the history, the horizon and the holds are as
--- they were, and each later call is refused
+-- the call found another record in the event log after the history: the history, the horizon and the holds are
+-- as before, and each later call fails
 pub record IsBroken (old new : DatabaseValue) : Type 0 where
   pub was : old.broken ≡ false
   pub is : new.broken ≡ true
@@ -26,40 +26,39 @@ pub record IsBroken (old new : DatabaseValue) : Type 0 where
   pub horizon : new.horizon ≡ old.horizon
   pub holds : new.holds ≡ old.holds
 
--- what a refusal leaves: the database as it was; and refused as broken, it was broken before, or is so from
--- now on
+-- the database after an error: as before; after `Broken`, it was broken before, or is so from now on
 abbrev pub IsLeft : DatabaseValue → DatabaseValue → DbError → Type 0
 IsLeft old new Broken = ((new ≡ old) × (old.broken ≡ true)) ⊎ IsBroken old new
 IsLeft old new e = new ≡ old
 
 -- ---- holds
 
--- a hold can be had: the database is whole, and there is room for one more hold
+-- a hold can be added: the database is not broken, and there is room for another hold
 pub record IsHoldable (d : DatabaseValue) : Type 0 where
   pub whole : d.broken ≡ false
   pub room : length d.holds < MAX_HOLDS
 
--- of a hold: broken, or too many holds; and then out of memory
+-- of a hold: broken, or too many holds; and then no memory
 abbrev pub IsHoldRefused : DatabaseValue → DbError → Type 0
 IsHoldRefused d Broken = d.broken ≡ true
 IsHoldRefused d HoldsFull = (d.broken ≡ false) × (MAX_HOLDS ≤ length d.holds)
 IsHoldRefused d Memory = IsHoldable d
 IsHoldRefused d e = ⊥
 
--- of taking a hold away: broken, or the stamp is not held
+-- of removing a hold: broken, or the stamp is not held
 abbrev pub IsUnpinRefused : DatabaseValue → ℕ → DbError → Type 0
 IsUnpinRefused d stamp Broken = d.broken ≡ true
 IsUnpinRefused d stamp (NotPinned named) =
     (d.broken ≡ false) × (is_held stamp d.holds ≡ false) × (named ≡ stamp)
 IsUnpinRefused d stamp e = ⊥
 
--- of a vacuum: broken; and then, where it moves the horizon, the store refused by itself
+-- of a vacuum: broken; and then, if it moves the horizon, an error of the store itself
 abbrev pub IsVacuumRefused : DatabaseValue → DbError → Type 0
 IsVacuumRefused d Broken = d.broken ≡ true
 IsVacuumRefused d (Store cause) = (d.broken ≡ false) × (next_horizon d ≢ d.horizon) × IsOwn cause
 IsVacuumRefused d e = ⊥
 
--- of a new beginning: broken; and then the store refused by itself
+-- of a new beginning: broken; and then an error of the store itself
 abbrev pub IsBeginRefused : DatabaseValue → DbError → Type 0
 IsBeginRefused d Broken = d.broken ≡ true
 IsBeginRefused d (Store cause) = (d.broken ≡ false) × IsOwn cause
@@ -67,16 +66,16 @@ IsBeginRefused d e = ⊥
 
 -- ---- pins
 
--- a pin can be appended: the database is whole, the stamp asked for is at most the next one, and there is
--- room for its event and for its hold
+-- a pin can be appended: the database is not broken, the least stamp asked for is at most the next one, and
+-- there is room for its event and for its hold
 pub record IsPinnable (d : DatabaseValue) (at_least : ℕ) : Type 0 where
   pub whole : d.broken ≡ false
   pub late : at_least ≤ newest d + 1
   pub room : newest d < events_room d.events
   pub hold : length d.holds < MAX_HOLDS
 
--- of a pin: broken, or asked for beyond the next stamp, or there is no room, or too many holds, each where
--- none before it comes; and then out of memory, or another record stands in the row
+-- Of a pin: broken, or asked for beyond the next stamp, or no room, or too many holds, each if none before it
+-- applies; and then no memory, or another record in the event log.
 abbrev pub IsPinRefused : DatabaseValue → ℕ → DbError → Type 0
 IsPinRefused d at_least Broken = (d.broken ≡ true) ⊎ IsPinnable d at_least
 IsPinRefused d at_least (FutureStamp last) =
@@ -91,11 +90,11 @@ IsPinRefused d at_least e = ⊥
 
 -- ---- queries
 
--- how many of the kept versions a query has to look at
+-- the number of kept versions that a query has to look at
 abbrev pub matching_of : DatabaseValue → Query → ℕ
 matching_of d q = length (filter (suits q) d.versions)
 
--- the store refused to read the versions that match: there are too many of them, or it refused by itself
+-- the store cannot return the versions that match: there are too many of them, or it fails itself
 abbrev pub IsStoreRefused : DatabaseValue → Query → StoreError → Type 0
 IsStoreRefused d q store.TooManyRows = d.most < matching_of d q
 IsStoreRefused d q (store.Store cause) = ⊤
@@ -107,7 +106,8 @@ pub record IsAnswerable (d : DatabaseValue) (stamp : ℕ) : Type 0 where
   pub whole : d.broken ≡ false
   pub readable : IsReadable d.horizon (newest d) stamp
 
--- of a query: broken, or beyond the newest stamp, or below the horizon; and then the store, or out of memory
+-- of a query: broken, or beyond the newest stamp, or below the horizon; and then an error of the store, or no
+-- memory
 abbrev pub IsQueryRefused : DatabaseValue → Query → ℕ → DbError → Type 0
 IsQueryRefused d q stamp Broken = d.broken ≡ true
 IsQueryRefused d q stamp (FutureStamp last) = (d.broken ≡ false) × (newest d < stamp) × (last ≡ newest d)
@@ -123,11 +123,11 @@ IsQueryRefused d q stamp e = ⊥
 abbrev pub row_query : Change → Query
 row_query c = ById (change_table c) (change_id c)
 
--- of no row that the changes name are too many versions kept
+-- no row that the changes name has too many kept versions
 abbrev pub AreFewNamed : DatabaseValue → List Change → Type 0
 AreFewNamed d changes = (c : Change) → Contains changes c → matching_of d (row_query c) ≤ d.most
 
--- the database is whole, knows the base, and has the tags of the events after it
+-- the database is not broken, has the base, and has the tags of the events after it
 pub record IsBase (d : DatabaseValue) (base : ℕ) : Type 0 where
   pub whole : d.broken ≡ false
   pub known : base ≤ newest d
@@ -140,8 +140,8 @@ pub record IsUnread (d : DatabaseValue) (base : ℕ) (read : List Tag) : Type 0 
   pub kept : AreTagsKept d.events d.horizon base
   pub apart : NoneMatches d.history base (newest d) read
 
--- a commit can be done: what was read is as it was, the rows that the changes name can be looked up, and
--- there is room for its event, where it has one
+-- a commit can be done: what was read has not changed, the rows that the changes name can be looked up, and
+-- there is room for its event, if it has one
 pub record IsCommittable (d : DatabaseValue) (base : ℕ) (read : List Tag) (changes : List Change)
     : Type 0 where
   pub unread : IsUnread d base read
@@ -163,8 +163,8 @@ pub record IsEventBarred (d : DatabaseValue) (base : ℕ) (read : List Tag) (cha
   pub some : newest_net d changes ≢ []
   pub full : newest d ≡ events_room d.events
 
--- the store refused a commit: of a row that it names too many versions are kept; or there are changes, and
--- it refused by itself
+-- the store fails at a commit: a row that it names has too many kept versions; or there are changes, and the
+-- store fails itself
 abbrev pub IsStoreRefusedIn : DatabaseValue → List Change → StoreError → Type 0
 IsStoreRefusedIn d changes store.TooManyRows =
     (c : Change) × Contains changes c × (d.most < matching_of d (row_query c))
@@ -172,8 +172,9 @@ IsStoreRefusedIn d changes (store.Store cause) = changes ≢ []
 IsStoreRefusedIn d changes store.StoreMemory = changes ≢ []
 IsStoreRefusedIn d changes store.Memory = ⊥
 
--- of a commit: broken, or beyond the newest stamp, or from before the tags that are kept, or a conflict with what
--- was read; then the store, or there is no room. It may be out of memory as soon as there is no conflict. And last another record stands in the row.
+-- Of a commit: broken, or beyond the newest stamp, or before the tags that are stored, or a conflict with what
+-- was read; then an error of the store, or no room. Memory may be missing as soon as there is no conflict. And
+-- last, another record is in the event log.
 abbrev pub IsCommitRefused : DatabaseValue → ℕ → List Tag → List Change → DbError → Type 0
 IsCommitRefused d base read changes Broken = (d.broken ≡ true) ⊎ IsEventDue d base read changes
 IsCommitRefused d base read changes (FutureStamp last) =

@@ -1,4 +1,4 @@
--- The codes of refusals, with the numbers that go with them.
+-- The codes of errors, with their numbers.
 use Rattle.std.specs.Prelude.{ℕ, List, ◌++◌, codes}
 use Rattle.std.specs.Fmt.{decimal}
 use Rattle.txc_rows.specs.Codes.{store_code}

@@ -1,4 +1,4 @@
--- What callers see of a database.
+-- The value of a database in contracts.
 use Rattle.std.specs.Prelude.{ℕ, ◌+◌, ◌≤◌, Bool, List, [], ◌∷◌, ◌++◌, length, min, ◌==◌, if◌then◌else◌, map, false}
 use Rattle.std.specs.List.{AllByRecursion, list_any}
 use Rattle.txc_stream.specs.Names.{Name}
@@ -13,9 +13,9 @@ use Rattle.txc_db.specs.Facts.{EventValue}
 use Rattle.txc_db.specs.Seen.{FrontValue}
 use Rattle.txc_db.specs.History.{History, state_at, AreTagged, pin_event, commit_event, state_event}
 
--- What the history of its events is called; the history; the versions that are kept; how many of them may match a query. The
--- horizon; the stamps that are held, one for each hold, the earliest hold first; and whether another record was found in
--- its row.
+-- The identity of its history; the history; the kept versions; how many of them may match a query. The horizon;
+-- the held stamps, one for each hold, in ascending order; and whether another record was found in its event
+-- log.
 pub record DatabaseValue : Type 0 where
   pub events : Name
   pub history : History
@@ -25,11 +25,11 @@ pub record DatabaseValue : Type 0 where
   pub holds : List ℕ
   pub broken : Bool
 
--- so many versions may match: 1,024, or more that were allowed
+-- the number of versions that may match: 1,024, or a greater number that was set
 abbrev pub IsLimit : ℕ → Type 0
 IsLimit most = (MAX_MATCHING ≤ most) × (most ≤ MOST_MATCHING)
 
--- what a front of the whole history shows
+-- the value of a front of the whole history
 abbrev pub front_of : DatabaseValue → FrontValue
 front_of d = record { events = d.events; history = d.history }
 
@@ -41,12 +41,12 @@ newest d = length d.history
 abbrev pub newest_state : DatabaseValue → State
 newest_state d = state_at d.history (newest d)
 
--- the least of the stamps, or the newest stamp where there is none
+-- the least of the stamps, or the newest stamp if there is none
 abbrev pub least : ℕ → List ℕ → ℕ
 least newest [] = newest
 least newest (s ∷ ss) = min s (least newest ss)
 
--- how many holds the stamp has
+-- the number of holds of the stamp
 abbrev pub holds_of : ℕ → List ℕ → ℕ
 holds_of stamp [] = 0
 holds_of stamp (s ∷ ss) = (if s == stamp then 1 else 0) + holds_of stamp ss
@@ -70,8 +70,8 @@ pub record IsReadable (horizon newest stamp : ℕ) : Type 0 where
   pub low : horizon ≤ stamp
   pub high : stamp ≤ newest
 
--- what every database keeps: each event stands beside its tags, the versions say each state from the
--- horizon to the newest stamp, as many may match as can be allowed, and no held stamp is below the horizon
+-- invariant of a database: each event has the tags of its changes, the versions describe each state from the
+-- horizon to the newest stamp, the limit of a query is allowed, and no held stamp is below the horizon
 pub record IsSound (d : DatabaseValue) : Type 0 where
   pub tagged : AreTagged d.history
   pub kept : KeepsStates (state_at d.history) d.horizon (newest d) d.versions
@@ -89,7 +89,7 @@ after_hold d = record d { holds = d.holds ++ newest d ∷ [] }
 abbrev pub after_unpin : DatabaseValue → ℕ → DatabaseValue
 after_unpin d stamp = record d { holds = without stamp d.holds }
 
--- what a vacuum makes the horizon: the least held stamp, or the newest where none is held
+-- the horizon after a vacuum: the least held stamp, or the newest if none is held
 abbrev pub next_horizon : DatabaseValue → ℕ
 next_horizon d = least (newest d) d.holds
 
@@ -102,7 +102,7 @@ abbrev pub after_pin : DatabaseValue → ℕ → DatabaseValue
 after_pin d moment =
     record d { history = d.history ++ pin_event moment ∷ []; holds = d.holds ++ (newest d + 1) ∷ [] }
 
--- what the changes give over the newest state
+-- the net changes of the newest state
 abbrev pub newest_net : DatabaseValue → List Change → List Change
 newest_net d changes = net_changes (newest_state d) changes
 
@@ -111,18 +111,18 @@ abbrev pub after_event_of : DatabaseValue → EventValue → List Change → Dat
 after_event_of d e net =
     record d { history = d.history ++ e ∷ []; versions = after_net (newest d + 1) net d.versions }
 
--- d itself where there is no net change, else the other
+-- d itself if there is no net change, otherwise the other
 abbrev pub where_some : List Change → DatabaseValue → DatabaseValue → DatabaseValue
 where_some [] d other = d
 where_some (c ∷ cs) d other = other
 
--- the commit of the changes is one more event; where they change nothing, d stays
+-- the commit of the changes is one more event; if they change nothing, d stays
 abbrev pub after_commit : DatabaseValue → List Change → DatabaseValue
 after_commit d changes = where_some (newest_net d changes) d
     (after_event_of d (commit_event (newest_state d) changes) (newest_net d changes))
 
--- another history begins, with the newest state as its one event. Of the versions those are left that have not died: each
--- is older than the event. As many may match as before. Nothing is held.
+-- Another history begins, with the newest state as its single event. Only the versions that have not died are
+-- left: each is older than the event. The limit of a query stays. Nothing is held.
 abbrev pub begun_anew : DatabaseValue → Name → DatabaseValue
 begun_anew d events = record {
   events = events;

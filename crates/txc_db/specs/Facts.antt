@@ -10,12 +10,12 @@ pub data Fact : Type 0 where
   commit : List Change → Fact
   pin : ℕ → Fact
 
--- what happened, and the tags beside it
+-- the fact, and its tags
 pub record EventValue : Type 0 where
   pub fact : Fact
   pub tags : List Tag
 
--- what happened, as a fact
+-- the fact as a value
 abbrev pub fact_of : What → Fact
 fact_of (whats.Commit net) = commit net.items
 fact_of (whats.Pin moment) = pin moment

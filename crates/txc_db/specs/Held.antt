@@ -8,15 +8,15 @@ use Rattle.txc_db.specs.History.{History}
 use Rattle.txc_db.specs.declared.prepared.Prepared.{Prepared}
 use Rattle.txc_db.specs.declared.prepared.Prepared.TheVariants.{Stored, Unstored}
 
--- what the history is called, its events, of how many of them, from the first on, the tags were dropped, and for
--- how many tags more there is room
+-- the history's identity, its events, how many of the first have no tags any more, and for how many more tags
+-- there is room
 pub record HistoryValue : Type 0 where
   pub events : Name
   pub history : History
   pub first : ℕ
   pub room : ℕ
 
--- what a front of the whole of it shows
+-- the value of a front of the whole history
 abbrev pub front_in : HistoryValue → FrontValue
 front_in h = record { events = h.events; history = h.history }
 
@@ -25,7 +25,7 @@ abbrev pub HasWindow : Option (WindowValue EventValue) → FrontValue → Type 0
 HasWindow None front = HasRow front.events
 HasWindow (Some w) front = ¬ (HasRow front.events) × (w.name ≡ front.events) × (w.list ≡ front.history)
 
--- a row keeps all tags
+-- a log stores all tags
 abbrev pub first_kept : Option (WindowValue EventValue) → ℕ
 first_kept None = 0
 first_kept (Some w) = w.first

@@ -35,7 +35,7 @@ abbrev pub event_at : History → ℕ → Option EventValue
 event_at L zero = None
 event_at L (suc t) = slice_get L t
 
--- each event stands beside its tags
+-- each event has the tags of its changes
 abbrev pub AreTagged : History → Type 0
 AreTagged L = (e : ℕ) (v : EventValue) → event_at L e ≡ Some v → v.tags ≡ tags_at L e
 
@@ -44,12 +44,12 @@ abbrev pub moment_of : Fact → Option ℕ
 moment_of (commit net) = None
 moment_of (pin moment) = Some moment
 
--- the moment of an event that is there and is a pin
+-- the time of an event that exists and is a pin
 abbrev pub pinned_moment : Option EventValue → Option ℕ
 pinned_moment None = None
 pinned_moment (Some e) = moment_of e.fact
 
--- the moment of event e, where it is a pin
+-- the time of event e, if it is a pin
 abbrev pub moment_at : History → ℕ → Option ℕ
 moment_at L e = pinned_moment (event_at L e)
 

@@ -1,4 +1,4 @@
--- What follows from the definitions of histories.
+-- Laws of histories.
 use Rattle.std.specs.Prelude.{ℕ, suc, ◌≡◌, ◌≤◌, ◌+◌, true, false, List, [], ◌++◌, length, Some, if◌then◌else◌, ◌==◌}
 use Rattle.txc_tags.specs.declared.tag.Tag.{Tag}
 use Rattle.txc_tags.specs.Tags.{sets_match}
@@ -27,8 +27,7 @@ abbrev pub PinsChangeNothing : Type 0
 PinsChangeNothing = (L : History) (t moment : ℕ) → moment_at L (suc t) ≡ Some moment
     → (state_at L (suc t) ≡ state_at L t) × (tags_at L (suc t) ≡ [])
 
--- without one hold of a stamp there is one fewer hold of it, where there was one, and as many of each other
--- stamp
+-- removing one hold of a stamp leaves one hold fewer of it, if there was one, and as many of each other stamp
 abbrev pub OneHoldLess : Type 0
 OneHoldLess = (holds : List ℕ) (stamp other : ℕ) → is_held stamp holds ≡ true
     → holds_of other (without stamp holds) + (if stamp == other then 1 else 0) ≡ holds_of other holds

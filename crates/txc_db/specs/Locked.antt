@@ -10,23 +10,23 @@ use Rattle.txc_db.specs.Seen.{FrontValue}
 use Rattle.txc_db.specs.History.{History}
 use Rattle.txc_db.specs.DatabaseValue.{DatabaseValue}
 
--- what a refusal leaves: the database as it was; and refused as broken, it was broken before, or is so from
--- now on, where another record stood in one of its rows
+-- the database after an error: as before; after `Broken`, it was broken before, or is so from now on, since
+-- another record was in one of its logs
 abbrev pub IsLockedLeft : DatabaseValue → DatabaseValue → DbError → Type 0
 IsLockedLeft old new Broken =
     ((new ≡ old) × (old.broken ≡ true)) ⊎ ((old.broken ≡ false) × (new.broken ≡ true))
 IsLockedLeft old new e = new ≡ old
 
--- what a refused commit leaves
+-- the database after a failed commit
 abbrev pub IsCommitLeft : DatabaseValue → DatabaseValue → CommitError → Type 0
 IsCommitLeft old new (commits.Conflict conflict) = new ≡ old
 IsCommitLeft old new (commits.Database refusal) = IsLockedLeft old new refusal
 
--- the refusal of a commit as its caller gets it: a conflict takes the front with it
+-- the error of a commit as its caller gets it: a conflict has the front with it
 abbrev pub IsRefusalWith : FrontValue → DbError → CommitError → Type 0
 IsRefusalWith front (Conflict first) e = e ≡ commits.Conflict (record { answer = first; front = front })
 IsRefusalWith front refusal e = e ≡ commits.Database refusal
 
--- each event was posted, or stood there before the poster did, and what was posted last shows the whole history
+-- each event was posted, or preceded the poster, and the last posted front shows the whole history
 abbrev pub AreAllPosted : History → PosterValue EventValue → Type 0
 AreAllPosted L p = (p.from + length p.posted ≡ length L) × (fold (λ before last. last) (Some L) p.posted ≡ Some L)

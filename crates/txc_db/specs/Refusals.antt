@@ -1,4 +1,4 @@
--- Why calls of the database are refused.
+-- Errors of the database.
 use Rattle.std.specs.Prelude.{◌≡◌, ⊤, ℕ, ◌<◌, ◌≤◌, true, false, List, length}
 use Rattle.txc_tags.specs.declared.tag.Tag.{Tag}
 use Rattle.txc_tags.specs.Tags.{sets_match}
@@ -8,21 +8,21 @@ use Rattle.txc_db.specs.declared.error.DbError.{DbError}
 use Rattle.txc_db.specs.declared.error.DbError.TheVariants as refusals
 use Rattle.txc_db.specs.History.{History, tags_at}
 
--- what a refusal of the store is to the database's caller
+-- the error of the store as the database's caller gets it
 abbrev pub IsRefusalOf : StoreError → DbError → Type 0
 IsRefusalOf store.TooManyRows e = e ≡ refusals.Store store.TooManyRows
 IsRefusalOf (store.Store cause) e = e ≡ refusals.Store (store.Store cause)
 IsRefusalOf store.StoreMemory e = e ≡ refusals.Store store.StoreMemory
 IsRefusalOf store.Memory e = e ≡ refusals.Memory
 
--- the store refused by itself, whatever the call
+-- the store itself failed, whatever the call
 abbrev pub IsOwn : StoreError → Type 0
 IsOwn store.TooManyRows = ⊥
 IsOwn (store.Store cause) = ⊤
 IsOwn store.StoreMemory = ⊤
 IsOwn store.Memory = ⊥
 
--- a growth was refused, or the store refused by itself: no argument decides these
+-- memory cannot be allocated, or the store itself failed: no argument decides these
 abbrev pub IsWant : DbError → Type 0
 IsWant (refusals.SnapshotGone horizon) = ⊥
 IsWant (refusals.Conflict stamp) = ⊥

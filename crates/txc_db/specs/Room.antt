@@ -1,4 +1,4 @@
--- What a history of events has room for, and what it keeps.
+-- The room of a history of events, and the tags that it stores.
 use Rattle.std.specs.Prelude.{◌≡◌, ⊤, ℕ, ◌<◌, ◌≤◌, length}
 use Rattle.txc_stamp.specs.declared.stamp.TheConstants.{MOST_STAMP}
 use Rattle.txc_stream.specs.Names.{Name, stored, unstored}
@@ -8,13 +8,13 @@ abbrev pub events_room : Name → ℕ
 events_room (stored cells) = length cells
 events_room (unstored number) = MOST_STAMP
 
--- it is stored in a row with so many cells
+-- it is stored in a log with n cells
 abbrev pub HasCapacity : Name → ℕ → Type 0
 HasCapacity (stored cells) n = length cells ≡ n
 HasCapacity (unstored number) n = ⊥
 
--- the tags of each event after the base are kept: a row keeps them all; else those of the events after the horizon
--- are
+-- the tags of each event after the base are stored: a log stores them all; otherwise those of the events after
+-- the horizon are
 abbrev pub AreTagsKept : Name → ℕ → ℕ → Type 0
 AreTagsKept (stored cells) horizon base = ⊤
 AreTagsKept (unstored number) horizon base = horizon ≤ base

@@ -1,9 +1,9 @@
--- What fronts and feeds have seen of a history.
+-- The observed events of fronts and feeds.
 use Rattle.std.specs.Prelude.{ℕ}
 use Rattle.txc_stream.specs.Names.{Name, stored, unstored}
 use Rattle.txc_db.specs.History.{History}
 
--- what the history of events is called, and the first of them, as they were seen
+-- the history's identity, and its first events, as observed
 pub record FrontValue : Type 0 where
   pub events : Name
   pub history : History
@@ -13,8 +13,7 @@ pub record FeedValue : Type 0 where
   pub history : History
   pub taken : ℕ
 
--- how many events a feed has taken at its beginning, where there are so many: none of a stored history, and each of
--- any other
+-- the number of events that a feed has taken at its beginning: none of a stored history, and each of any other
 abbrev pub taken_at_start : Name → ℕ → ℕ
 taken_at_start (stored cells) events = 0
 taken_at_start (unstored number) events = events

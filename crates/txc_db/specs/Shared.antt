@@ -1,4 +1,4 @@
--- What a call of the shared database answers, by its numbers and by the front beside its answer.
+-- Results of the shared database, by their values and by the front with them.
 use Rattle.std.specs.Prelude.{◌≡◌, ◌≢◌, ℕ, ◌+◌, ◌≤◌, false, List, [], length, Some}
 use Rattle.txc_tags.specs.declared.tag.Tag.{Tag}
 use Rattle.txc_stream.specs.Names.{Name}
@@ -17,8 +17,8 @@ use Rattle.txc_db.specs.Room.{events_room}
 use Rattle.txc_db.specs.Refusals.{NoneMatches, IsConflict}
 use Rattle.txc_db.specs.Calls.{IsAnswerable, matching_of, IsBase, IsCommitRefused}
 
--- a database with the history of this name: it has no more events than there is room for, and unless it is
--- broken, it is sound
+-- a database with this history: it has no more events than there is room for, and unless it is broken, it is
+-- sound
 pub record IsDatabaseOf (events : Name) (d : DatabaseValue) : Type 0 where
   pub named : d.events ≡ events
   pub fits : length d.history ≤ events_room d.events
@@ -31,7 +31,7 @@ MayAnswer events answers a = (d : DatabaseValue) × IsDatabaseOf events d × ans
 -- ---- answers of a query
 
 -- the front shows the whole history of the database, which can answer at the stamp; and this is the answer in
--- that history, valid as far as the database's horizon and its newest stamp tell
+-- that history, valid from the database's horizon to its newest stamp
 pub record IsQueryAnswer (d : DatabaseValue) (q : Query) (stamp : ℕ) (answered : Answered Found) : Type 0 where
   pub known : IsAnswerable d stamp
   pub few : matching_of d q ≤ d.most
@@ -61,21 +61,21 @@ pub record IsEventIn (L : History) (base : ℕ) (read : List Tag) (changes : Lis
   pub some : net_changes (state_at L before) changes ≢ []
   pub event : event_at L stamp ≡ Some (commit_event (state_at L before) changes)
 
--- ---- refusals
+-- ---- errors
 
--- some database with the history of this name refuses so
+-- some database with this history fails so
 abbrev pub MayRefuse : {E : Type 0} → Name → (DatabaseValue → E → Type 0) → E → Type 0
 MayRefuse events refused e = MayAnswer events refused e
 
--- the first event after the base that matches what was read, and a front of the whole history in which it is
+-- the first event after the base that matches what was read, and a front of the whole history, which has it
 pub record IsConflictShown (d : DatabaseValue) (base : ℕ) (read : List Tag) (conflict : Answered ℕ)
     : Type 0 where
   pub known : IsBase d base
   pub first : IsConflict d.history base read conflict.answer
   pub front : conflict.front ≡ front_of d
 
--- a commit is refused as it is without a lock, but that it may be out of memory as soon as the base is
--- known; a conflict comes with a front
+-- a commit fails as it does without a lock, except that memory may be missing as soon as the base is known; a
+-- conflict comes with a front
 abbrev pub IsSharedCommitRefused : DatabaseValue → ℕ → List Tag → List Change → CommitError → Type 0
 IsSharedCommitRefused d base read changes (commits.Conflict conflict) = IsConflictShown d base read conflict
 IsSharedCommitRefused d base read changes (commits.Database (Conflict first)) = ⊥

@@ -9,7 +9,7 @@ use Rattle.txc_db.specs.Room.{events_room, AreTagsGone}
 use Rattle.txc_db.specs.Refusals.{IsOwn}
 use Rattle.txc_db.specs.Calls.{IsStoreRefused, IsStoreRefusedIn}
 
--- of the base of a commit: broken, or beyond the newest stamp, or from before the tags that are kept
+-- of the base of a commit: broken, or beyond the newest stamp, or before the tags that are stored
 abbrev pub IsBaseRefused : DatabaseValue → ℕ → DbError → Type 0
 IsBaseRefused d base Broken = d.broken ≡ true
 IsBaseRefused d base (FutureStamp last) = (d.broken ≡ false) × (newest d < base) × (last ≡ newest d)
@@ -17,18 +17,18 @@ IsBaseRefused d base (SnapshotGone horizon) =
     (d.broken ≡ false) × AreTagsGone d.events d.horizon base × (horizon ≡ d.horizon)
 IsBaseRefused d base e = ⊥
 
--- of a look at the rows of a query: the store, or out of memory
+-- of reading the rows of a query: an error of the store, or no memory
 abbrev pub IsReadRefused : DatabaseValue → Query → DbError → Type 0
 IsReadRefused d q (Store cause) = IsStoreRefused d q cause
 IsReadRefused d q e = e ≡ Memory
 
--- of a look at the rows that the changes name: the store, or out of memory
+-- of reading the rows that the changes name: an error of the store, or no memory
 abbrev pub IsNetRefused : DatabaseValue → List Change → DbError → Type 0
 IsNetRefused d changes (Store cause) = IsStoreRefusedIn d changes cause
 IsNetRefused d changes e = e ≡ Memory
 
--- of an event that is to be appended: there is no room; else the store refused by itself, or out of memory,
--- or another record stands in the row
+-- of appending an event: no room; otherwise an error of the store itself, or no memory, or another record in
+-- the event log
 abbrev pub IsAppendRefused : DatabaseValue → DbError → Type 0
 IsAppendRefused d Full = newest d ≡ events_room d.events
 IsAppendRefused d (Store cause) = (newest d < events_room d.events) × IsOwn cause

@@ -51,7 +51,7 @@ pub record WorkedAnswers : Type 0 where
 
 -- net changes over its newest state
 pub record WorkedNet : Type 0 where
-  -- the same row again, and the removal of a row that is not there
+  -- the same row again, and the removal of a row that does not exist
   pub quiet : net_changes (state_at worked 4) (Put (worked_row 7 97) ∷ Remove 1 9 ∷ []) ≡ []
   -- the last change of a row counts
   pub last : net_changes (state_at worked 4) (Put (worked_row 8 99) ∷ Remove 1 8 ∷ []) ≡ Remove 1 8 ∷ []

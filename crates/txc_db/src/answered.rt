@@ -1,4 +1,4 @@
-//! What the calls of a shared database hand out.
+//! Results of the calls of a shared database.
 use crate::error::DbError;
 use crate::history_front::HistoryFront;
 use std::alloc::AllocError;
@@ -6,20 +6,21 @@ use std::fmt;
 use thiserror::Error;
 use txc_stamp::Stamp;
 
-/// An answer, with a front of the history that proves it.
+/// A result, with a front of the history that proves it.
 #[derive(Drop)]
 pub struct Answered<T> {
     pub answer: T,
     pub front: HistoryFront,
 }
 
-/// Why a commit was refused.
+/// Errors of a commit.
 #[derive(Drop, Error)]
 pub enum CommitError {
-    /// An event after the base matches the tags read: the first that does, in a front that shows it.
-    #[error("event {} conflicts with what was read", .0.answer)]
+    /// The commit conflicts with an event after the base that matches the tags read: the first such event, with
+    /// a front that shows it.
+    #[error("the commit conflicts with event {}, which changed what was read", .0.answer)]
     Conflict(Answered<Stamp>),
-    /// Any other refusal.
+    /// Any other error of the database.
     #[error("{0}")]
     Database(DbError),
 }

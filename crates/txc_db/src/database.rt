@@ -1,4 +1,4 @@
-//! The database under its lock: each call answers with a front that proves what it says.
+//! The database under its lock: each call returns a front that proves its result.
 ghost use Rattle.std.specs.Prelude.{◌≡◌, ◌+◌, ◌≤◌, ◌⊎◌, ◌∷◌, [], length, Some, IfOk, IfErr, MatchOption};
 ghost use Rattle.txc_stream.specs.Names.{stored, HasRow};
 ghost use Rattle.txc_rows.specs.RowTags.{query_tag};
@@ -15,12 +15,12 @@ use crate::event::Event;
 use crate::feed::Feed;
 use crate::held::Held;
 use crate::history_front::HistoryFront;
+use crate::lock::lock_soon;
 use crate::locked::Locked;
 use crate::naming::Naming;
 use crate::pinned::Pinned;
 use std::alloc::{AllocError, Global};
 use std::sync::{Mutex, Wait};
-use txc_lock::lock_soon;
 use txc_rows::{Change, Query};
 use txc_stamp::Stamp;
 use txc_stream::EventRow;
@@ -29,17 +29,17 @@ use txc_validity::Found;
 
 /// A database that threads share.
 ///
-/// Each call that waits for the lock does the call of [`DbCore`] of its name and refuses as that does, for
-/// some history of the named row; what an answer says of the history, the front beside it shows. The
-/// front's room is a growth like any other. A database that was found `Broken` refuses each such call so
-/// from then on, whatever memory there is.
+/// Each call that waits for the lock does the call of [`DbCore`] of the same name, and fails as that does, for
+/// some history of the named database. The front in a result shows what the result states of the history.
+/// Memory for the front may be unavailable as any other. Once a call has found the database `Broken`, each
+/// later call fails so, whatever memory there is.
 pub struct Database<J: Naming> {
     start: HistoryFront,
     lock: Mutex<Locked<J>>,
     ghost begins: { start ≡ record { events = J.database_history; history = [] } },
 }
 
-// Not derived: a derived one is proved again in each crate above.
+// Not derived, since a derived one would be proved again in each crate above.
 impl<J: Naming> Drop for Database<J> {
     fn drop(self) {
         let Database { start: _, lock: _ } = self;
@@ -47,8 +47,8 @@ impl<J: Naming> Drop for Database<J> {
 }
 
 impl<J: Naming> Database<J> {
-    /// Puts the database under a lock. Its history is the named one. Where memory is refused, the database is
-    /// dropped.
+    /// Puts the database, whose history is the named one, under a lock. Fails, and drops the database, if
+    /// memory cannot be allocated.
     pub fn new(alloc: Global, core: DbCore) -> Result<Database<J>, AllocError>
         requires { core.events ≡ J.database_history }
     {
@@ -60,8 +60,10 @@ impl<J: Naming> Database<J> {
         })
     }
 
-    /// The answer of the query at a stamp, with its validity up to the newest stamp, and the query's tag.
-    /// The front shows the whole history.
+    /// Returns the answer of the query at a stamp, with its validity up to the newest stamp, and the query's
+    /// tag. The front shows the whole history. Fails if the stamp is below the horizon or beyond the newest,
+    /// the store fails (more versions match than it allows, for one), the database is broken, or memory cannot
+    /// be allocated.
     pub fn query(
         &self,
         rt: &impl Wait,
@@ -78,7 +80,8 @@ impl<J: Naming> Database<J> {
         lock_soon(rt, &self.lock).query(alloc, query, stamp)
     }
 
-    /// Holds the newest stamp, so that no vacuum passes it until the hold is released.
+    /// Holds the newest stamp: no vacuum passes it until the hold is released. Fails if there are
+    /// [`crate::MAX_HOLDS`] holds, or memory cannot be allocated, or the database is broken.
     pub fn hold(&self, rt: &impl Wait, alloc: Global) -> Result<Held<J>, DbError>
         ensures refused { IfErr result (MayRefuse J.database_history IsHoldRefused) }
     {
@@ -86,8 +89,8 @@ impl<J: Naming> Database<J> {
         Ok(Held::new(answer, front))
     }
 
-    /// Releases the hold, which is spent even where this is refused: by a database that is broken, or whose
-    /// hold of the stamp was taken away by [`Database::unpin`]. It takes no memory.
+    /// Releases the hold, which is consumed even if this fails: the database is broken, or [`Database::unpin`]
+    /// has already removed the hold of the stamp. Does not allocate.
     pub fn release(&self, rt: &impl Wait, held: Held<J>) -> Result<(), DbError>
         ensures refused { IfErr result
             (MayRefuse J.database_history (λ d. IsUnpinRefused d (length held))) }
@@ -95,9 +98,13 @@ impl<J: Naming> Database<J> {
         self.unpin(rt, held.spend())
     }
 
-    /// Commits the changes, where no event after the base has tags that match those read. It answers the
-    /// newest stamp that it leaves, and the front shows the history up to it. Changes that change nothing
-    /// add no event.
+    /// Commits the changes if no event after the base has a tag that matches those read. Returns the newest
+    /// stamp after the commit; the front shows the history up to it. Changes that leave the state as it is add
+    /// no event.
+    ///
+    /// Fails with the first such event as a conflict; with `FutureStamp` if the base is beyond the newest
+    /// stamp; and with `SnapshotGone` if the tags of the events after it are no longer stored. It also fails if
+    /// the history is full, the store fails, the database is broken, or memory cannot be allocated.
     pub fn commit(
         &self,
         rt: &impl Wait,
@@ -116,8 +123,9 @@ impl<J: Naming> Database<J> {
         lock_soon(rt, &self.lock).commit(rt, alloc, base, read, changes)
     }
 
-    /// Appends a pin of the moment `now`, in milliseconds, and holds its stamp, which is not below
-    /// `at_least`.
+    /// Appends a pin of the wall-clock time `now`, in milliseconds, and holds its stamp, which is at least
+    /// `at_least`. Fails if `at_least` is beyond the next stamp, the history is full, [`MAX_HOLDS`] stamps are
+    /// held, the database is broken, or memory cannot be allocated.
     pub fn pin(
         &self,
         rt: &impl Wait,
@@ -136,14 +144,16 @@ impl<J: Naming> Database<J> {
         lock_soon(rt, &self.lock).pin(rt, alloc, now, at_least)
     }
 
-    /// Takes one hold of the stamp away, as a keeper does with those of pins. It takes no memory.
+    /// Removes one hold of the stamp, as maintenance does with those of pins. Fails if the stamp has no hold,
+    /// or the database is broken. Does not allocate.
     pub fn unpin(&self, rt: &impl Wait, stamp: Stamp) -> Result<(), DbError>
         ensures refused { IfErr result (MayRefuse J.database_history (λ d. IsUnpinRefused d stamp)) }
     {
         lock_soon(rt, &self.lock).unpin(stamp)
     }
 
-    /// Makes the horizon the least held stamp, or the newest where none is held, and answers it.
+    /// Moves the horizon to the least held stamp, or to the newest if none is held, and returns it. Fails, and
+    /// changes nothing, if the store fails or the database is broken.
     pub fn vacuum(&self, rt: &impl Wait) -> Result<Stamp, DbError>
         ensures answer { IfOk result (MayAnswer J.database_history (λ d horizon. horizon ≡ next_horizon d)) }
         ensures refused { IfErr result (MayRefuse J.database_history IsVacuumRefused) }
@@ -151,7 +161,7 @@ impl<J: Naming> Database<J> {
         lock_soon(rt, &self.lock).vacuum()
     }
 
-    /// The database without its lock, once no thread has it any more.
+    /// Returns the database without its lock, once no other thread has it.
     pub fn into_core(self) -> DbCore
         ensures { IsDatabaseOf J.database_history result }
     {
@@ -159,8 +169,8 @@ impl<J: Naming> Database<J> {
         lock.into_inner().into_core()
     }
 
-    /// The row of the events, where they are stored, which anybody reads without the lock. Whoever appends to it
-    /// breaks the database; tests do.
+    /// Returns the event log, if events are stored, which any thread reads without the lock. A caller that
+    /// appends to it breaks the database; tests do so.
     pub fn events(&self) -> Option<&EventRow<Event>>
         ensures { MatchOption result
             (¬ (HasRow J.database_history))
@@ -169,15 +179,16 @@ impl<J: Naming> Database<J> {
         self.start.events()
     }
 
-    /// A front of the history that shows nothing yet. It takes no lock.
+    /// Returns a front of the history that shows nothing yet. It takes no lock. Fails only if memory cannot be
+    /// allocated.
     pub fn reader(&self) -> Result<HistoryFront, AllocError>
         ensures { IfOk result (λ front. front ≡ record { events = J.database_history; history = [] }) }
     {
         self.start.again()
     }
 
-    /// A feed of the events. Of a stored history it has taken none yet; of any other it begins after the events that
-    /// are there.
+    /// Returns a feed of the events. For a stored history it begins before the first event, otherwise after the
+    /// present ones. Fails only if memory cannot be allocated.
     pub fn feed(&self, rt: &impl Wait) -> Result<Feed<J>, AllocError>
         ensures { IfOk result (λ feed.
             feed.taken ≡ taken_at_start J.database_history (length feed.history)) }

@@ -1,4 +1,4 @@
-//! The database for one thread, which its lock holds too.
+//! The database for one thread, which the lock of a shared one holds.
 ghost use Rattle.std.specs.Prelude.{◌≡◌, ◌≢◌, ◌+◌, ◌<◌, ◌≤◌, ◌∷◌, [], ◌↔◌, true, false, length, Ok, Err, IfOk, OnOk, OnErr, IfErr, ◌⊎◌, IsOk, IsTrue, MatchOption};
 ghost use mathlib.Core.List.{IsPrefix};
 ghost use Rattle.txc_rows.specs.RowTags.{query_tag};
@@ -10,6 +10,9 @@ ghost use Rattle.txc_db.specs.Room.{HasCapacity, AreTagsGone};
 ghost use Rattle.txc_db.specs.Refusals.{IsWant};
 ghost use Rattle.txc_db.specs.Calls.{IsLeft, IsHoldable, IsHoldRefused, IsUnpinRefused, IsVacuumRefused, IsPinnable, IsPinRefused, IsAnswerable, matching_of, IsQueryRefused};
 ghost use Rattle.txc_rows.specs.declared.store_error.TheConstants.{MAX_MATCHING, MOST_MATCHING};
+
+mod beginning;
+mod commit;
 
 use crate::error::DbError;
 use crate::event::Event;
@@ -28,26 +31,25 @@ use txc_tags::TagSet;
 use txc_validity::{Found, answer_at, validity_is_the_largest};
 
 /// A versioned database for one thread: one history of commits and pins, the versions of the rows from the
-/// horizon on, and the stamps that are held.
+/// horizon on, and the held stamps.
 ///
-/// Its history is stored in a row, or exists in the proofs alone: then of its events after the horizon the tags
-/// are kept, and a commit with a base below the horizon is refused as a query there is.
+/// Its history is stored in an event log, or is ghost: then it stores only the tags of the events after the
+/// horizon, and a commit with a base below the horizon fails as a query there does.
 ///
-/// A stamp names the state after so many events of the history. `Memory` and `Store`, where the store
-/// refused by itself, may be answered by any call that needs memory or the store; every other refusal comes
-/// exactly where the clauses say.
+/// A stamp is the number of events before a state. Any call that needs memory may fail with `Memory`, and any
+/// that uses the store of rows with `Store`; every other error comes exactly if the clauses state it.
 pub struct DbCore {
-    pub(crate) store: VersionRows,
-    // So many versions may match a query.
-    pub(crate) most: usize,
-    pub(crate) told: History,
-    pub(crate) horizon: Stamp,
-    // The earliest hold first, so that they rise.
-    pub(crate) holds: Vec<Stamp>,
-    pub(crate) broken: bool,
+    store: VersionRows,
+    // The most versions that may match a query.
+    most: usize,
+    told: History,
+    horizon: Stamp,
+    // In ascending order.
+    holds: Vec<Stamp>,
+    broken: bool,
 }
 
-// Not derived: a derived one is proved again in each crate above.
+// Not derived, since a derived one would be proved again in each crate above.
 impl Drop for DbCore {
     fn drop(self) {
         let DbCore {
@@ -92,7 +94,8 @@ impl Model for DbCore {
 impl DbCore {
     ghost use Rattle.txc_db.specs.DatabaseValue.{DatabaseValue, front_of, after_hold, after_pin, after_unpin, after_vacuum, newest, next_horizon, is_held, IsSound};
 
-    /// An empty database with a row for `capacity` events, over SQLite.
+    /// Makes an empty database over SQLite, with an event log for `capacity` events. Fails only if memory
+    /// cannot be allocated or SQLite fails.
     pub fn new(alloc: Global, capacity: usize) -> Result<DbCore, DbError>
         requires least { 1 ≤ capacity }
         requires most { capacity ≤ MAX_CAPACITY }
@@ -105,7 +108,8 @@ impl DbCore {
         DbCore::new_over(alloc, RowStore::Sql, capacity)
     }
 
-    /// An empty database with a row for `capacity` events, whose rows lie in that store.
+    /// Makes an empty database over that store of rows, with an event log for `capacity` events. Fails only if
+    /// memory cannot be allocated or the store fails.
     pub fn new_over(alloc: Global, rows: RowStore, capacity: usize) -> Result<DbCore, DbError>
         requires least { 1 ≤ capacity }
         requires most { capacity ≤ MAX_CAPACITY }
@@ -119,7 +123,8 @@ impl DbCore {
         DbCore::of(alloc, rows, History::stored(row)?)
     }
 
-    /// An empty database whose history the pen writes, over SQLite. It has room for as many events as there are stamps.
+    /// Makes an empty database over SQLite, whose ghost history the pen writes. It has room for 4,294,967,294
+    /// events. Fails only if memory cannot be allocated, or with an error of SQLite.
     pub fn unstored(alloc: Global, pen: Pen<Event>) -> Result<DbCore, DbError>
         requires { pen.list ≡ [] }
         ensures history { IfOk result (λ d. (d.history ≡ []) × (d.events ≡ unstored pen.number)) }
@@ -131,8 +136,8 @@ impl DbCore {
         DbCore::unstored_over(alloc, RowStore::Sql, pen)
     }
 
-    /// An empty database whose history the pen writes, and whose rows lie in that store. It has room for as many events as there
-    /// are stamps.
+    /// Makes an empty database over this kind of store, whose ghost history the pen writes. It has room for
+    /// 4,294,967,294 events. Fails only if memory cannot be allocated, or the store fails.
     pub fn unstored_over(alloc: Global, rows: RowStore, pen: Pen<Event>) -> Result<DbCore, DbError>
         requires { pen.list ≡ [] }
         ensures history { IfOk result (λ d. (d.history ≡ []) × (d.events ≡ unstored pen.number)) }
@@ -144,7 +149,7 @@ impl DbCore {
         DbCore::of(alloc, rows, History::unstored(alloc, pen))
     }
 
-    // An empty database with this history.
+    // Makes an empty database with this history.
     fn of(alloc: Global, rows: RowStore, told: History) -> Result<DbCore, DbError>
         requires none { told.history ≡ [] }
         requires all { told.first ≡ 0 }
@@ -171,8 +176,8 @@ impl DbCore {
         })
     }
 
-    /// Lets so many versions match a query, in the place of [`txc_rows::MAX_MATCHING`]. They are counted, and only what the
-    /// answer needs is copied.
+    /// Sets how many versions may match a query, instead of [`txc_rows::MAX_MATCHING`]. They are counted, and
+    /// only those that the answer needs are copied.
     pub fn allow(&mut self, most: usize)
         requires least { MAX_MATCHING ≤ most }
         requires most { most ≤ MOST_MATCHING }
@@ -181,45 +186,45 @@ impl DbCore {
         self.most = most;
     }
 
-    /// How many versions may match a query.
+    /// Returns how many versions may match a query.
     pub fn allowed(&self) -> usize
         ensures { result ≡ self.now.most }
     {
         self.most
     }
 
-    /// What holds of every database that is whole: each event stands beside its tags, the versions say each
-    /// state from the horizon to the newest stamp, and no held stamp is below the horizon. It does nothing
-    /// when it runs.
+    /// A database that is not broken is sound: each event has the tags of its changes, the versions describe
+    /// each state from the horizon to the newest stamp, and no held stamp is below the horizon. This is a
+    /// lemma: it does nothing when it runs.
     pub fn is_sound(&self)
         ensures { self.now.broken ≡ false → IsSound self.now }
     {
         let _whole = self.broken;
     }
 
-    /// Whether another record was found in its row.
+    /// Returns `true` if another record was found in its event log.
     pub(crate) fn is_broken(&self) -> bool
         ensures { result ≡ self.now.broken }
     {
         self.broken
     }
 
-    /// From now on each call is refused as broken.
+    /// Makes each later call fail as broken.
     pub(crate) fn set_broken(&mut self)
         ensures { self.new ≡ record self.old { broken = true } }
     {
         self.broken = true;
     }
 
-    /// The history, for the crate's own use.
+    /// Returns the history, for the crate's own use.
     pub(crate) fn history(&self) -> &HistoryFront
         ensures { result.now ≡ front_of self.now }
     {
         self.told.front()
     }
 
-    /// A handle of the tags of its last event, for who posts it; none where the history is stored, or each event was
-    /// vacuumed.
+    /// Returns a handle of the tags of its last event, for the publisher of events. Returns `None` if the
+    /// history is stored or each event was vacuumed.
     pub(crate) fn last_tags(&self) -> Result<Option<Arc<TagSet>>, AllocError>
         ensures { IfOk result (λ tags. MatchOption tags
             (HasRow self.now.events ⊎ (newest self.now ≤ self.now.horizon))
@@ -228,7 +233,8 @@ impl DbCore {
         self.told.last_tags()
     }
 
-    /// The tags of the event after the first `base` ones. None where there is no such event, or its tags are not kept.
+    /// Returns the tags of the event after the first `base` ones, or `None` if there is no such event, or its
+    /// tags are dropped.
     pub fn tags_after(&self, base: Stamp) -> Option<&TagSet>
         ensures { MatchOption result
             ((newest self.now ≤ base) ⊎ AreTagsGone self.now.events self.now.horizon base)
@@ -240,28 +246,29 @@ impl DbCore {
         Some(self.told.tags_of(base.number() as usize + 1))
     }
 
-    /// The newest stamp.
+    /// Returns the newest stamp.
     pub fn newest(&self) -> Stamp
         ensures { result ≡ newest self.now }
     {
         self.told.newest()
     }
 
-    /// A front of the history that shows nothing yet.
+    /// Returns a front of the history that shows nothing yet. Fails only if the log has too many handles.
     pub fn reader(&self) -> Result<HistoryFront, AllocError>
         ensures { IfOk result (λ front. front ≡ record { events = self.now.events; history = [] }) }
     {
         self.told.start().again()
     }
 
-    /// A front that shows the whole history.
+    /// Returns a front that shows the whole history. Fails only if the log has too many handles.
     pub fn front(&self) -> Result<HistoryFront, AllocError>
         ensures { IfOk result (λ front. front ≡ front_of self.now) }
     {
         self.told.front().again()
     }
 
-    /// The row of the events, where they are stored. Whoever appends to it breaks the database; tests do.
+    /// Returns the event log, if events are stored. A caller that appends to it breaks the database; tests do
+    /// so.
     pub fn events(&self) -> Option<&EventRow<Event>>
         ensures { MatchOption result
             (¬ (HasRow self.now.events))
@@ -270,7 +277,8 @@ impl DbCore {
         self.told.front().events()
     }
 
-    /// The answer of the query at a stamp, with its validity and the query's tag.
+    /// Returns the answer of the query at a stamp, with its validity and the query's tag. Fails if the stamp is
+    /// below the horizon or beyond the newest stamp, or more versions match than are allowed.
     pub fn query(&mut self, alloc: Global, query: &Query, stamp: Stamp) -> Result<Found, DbError>
         ensures same { self.new ≡ self.old }
         ensures answer { IfOk result (λ found.
@@ -292,21 +300,21 @@ impl DbCore {
         }
         validity_is_the_largest();
         let versions = self.store.matching_at(query, stamp, self.most)?;
-        // The stamp is kept, so that there is no refusal left but that it is out of memory.
+        // The stamp is kept, so only a failed allocation is left.
         match answer_at(alloc, &versions, query, stamp, self.horizon, newest) {
             Ok(found) => Ok(found),
             Err(_) => Err(DbError::Memory),
         }
     }
 
-    /// Whether there is no room for one more hold.
+    /// Returns `true` if there is no room for another hold.
     fn has_all_holds(&self) -> bool
         ensures { IsTrue result ↔ (MAX_HOLDS ≤ length self.now.holds) }
     {
         self.holds.len() >= MAX_HOLDS
     }
 
-    /// Refuses a hold that cannot be had, whatever memory there is.
+    /// Fails if no hold can be added, whatever memory there is.
     pub(crate) fn check_hold(&self) -> Result<(), DbError>
         ensures only_if { IsOk result ↔ IsHoldable self.now }
         ensures refused { IfErr result (IsHoldRefused self.now) }
@@ -323,7 +331,8 @@ impl DbCore {
         Ok(())
     }
 
-    /// Holds the newest stamp, so that no vacuum passes it until the hold is taken away.
+    /// Holds the newest stamp, and returns it: no vacuum passes it until the hold is removed. Fails if there
+    /// are [`crate::MAX_HOLDS`] holds, or memory cannot be allocated, or the database is broken.
     pub fn hold(&mut self, alloc: Global) -> Result<Stamp, DbError>
         ensures after { OnOk result (self.new ≡ after_hold self.old) }
         ensures answer { IfOk result (λ stamp. stamp ≡ newest self.old) }
@@ -340,7 +349,8 @@ impl DbCore {
         Ok(newest)
     }
 
-    /// Takes one hold of the stamp away. It takes no memory.
+    /// Removes one hold of the stamp. Fails if the stamp has none, or the database is broken. Does not
+    /// allocate.
     pub fn unpin(&mut self, stamp: Stamp) -> Result<(), DbError>
         ensures after { OnOk result (self.new ≡ after_unpin self.old stamp) }
         ensures only_if { IsOk result → is_held stamp self.old.holds ≡ true }
@@ -358,8 +368,9 @@ impl DbCore {
         Ok(())
     }
 
-    /// Makes the horizon the least held stamp, or the newest where none is held, and drops the versions
-    /// that no stamp from there on shows. The store is asked only where the horizon moves.
+    /// Moves the horizon to the least held stamp, or to the newest if none is held, returns it, and drops the
+    /// versions that are in no state from there on. It uses the store only if the horizon moves. Fails, and
+    /// changes nothing, if the store fails or the database is broken.
     pub fn vacuum(&mut self) -> Result<Stamp, DbError>
         ensures after { OnOk result (self.new ≡ after_vacuum self.old) }
         ensures answer { IfOk result (λ horizon. horizon ≡ next_horizon self.old) }
@@ -381,7 +392,7 @@ impl DbCore {
         Ok(horizon)
     }
 
-    /// Refuses a pin that cannot be appended, whatever memory there is.
+    /// Fails if no pin can be appended, whatever memory there is.
     pub(crate) fn check_pin(&self, at_least: Stamp) -> Result<(), DbError>
         ensures only_if { IsOk result ↔ IsPinnable self.now at_least }
         ensures refused { IfErr result (IsPinRefused self.now at_least) }
@@ -403,8 +414,8 @@ impl DbCore {
         Ok(())
     }
 
-    /// Appends a pin of the moment `now`, in milliseconds, and holds its stamp, which is not below
-    /// `at_least`.
+    /// Appends a pin of the wall-clock time `now`, in milliseconds, and holds its stamp. Fails if that stamp
+    /// would be below `at_least`, the history is full, or there are [`crate::MAX_HOLDS`] holds.
     pub fn pin(&mut self, alloc: Global, now: u64, at_least: Stamp) -> Result<Pinned, DbError>
         ensures after { OnOk result (self.new ≡ after_pin self.old now) }
         ensures answer { IfOk result (λ pinned. pinned.stamp ≡ newest self.new) }

@@ -1,42 +1,44 @@
 ghost use Rattle.std.specs.Fmt.{WritesOnOk};
 ghost use Rattle.txc_db.specs.Codes.{database_code};
 
+use crate::holds::MAX_HOLDS;
 use std::alloc::{AllocError, AllocFailed};
 use std::fmt;
 use thiserror::Error;
 use txc_rows::StoreError;
 use txc_stamp::Stamp;
 
-/// Why a call of the database was refused. After it the database is as it was, but where a call found it
-/// `Broken`.
+/// Errors of the database. After an error it is as it was, except that a call that finds it `Broken` leaves it
+/// broken.
 #[derive(Clone, Copy, Debug, PartialEq, Eq, Error)]
 pub enum DbError {
-    /// The stamp lies below the horizon, which is given.
-    #[error("the snapshot is gone: the horizon is {0}")]
+    /// The stamp is below the horizon, which is given.
+    #[error("the snapshot is gone: the oldest that can be read has the stamp {0}")]
     SnapshotGone(Stamp),
-    /// An event after the base matches the tags read; the first that does is given.
-    #[error("event {0} conflicts with what was read")]
+    /// The commit conflicts with an event after the base that matches the tags read; the first such event is
+    /// given.
+    #[error("the commit conflicts with event {0}, which changed what was read")]
     Conflict(Stamp),
-    /// The history has as many events as its row has cells.
-    #[error("the history is full")]
+    /// The history has as many events as it has room for.
+    #[error("the history has no room for another event")]
     Full,
-    /// The store of the row versions refused: too many versions match, or it refused by itself, out of memory
-    /// for its own work or for another reason.
+    /// The store of the row versions failed: too many versions match, or it has no memory for its own work, or
+    /// SQLite failed otherwise.
     #[error("{0}")]
     Store(StoreError),
-    /// Another record stood in the row after the history. From then on each call is refused so.
-    #[error("the database is broken")]
+    /// Another record is in the event log after the history. Every later call fails so.
+    #[error("the database is broken: its event log has another record")]
     Broken,
-    /// Nothing holds the stamp.
+    /// No hold of the stamp exists.
     #[error("stamp {0} is not held")]
     NotPinned(Stamp),
-    /// The stamp lies beyond the newest one, which is given.
-    #[error("the newest stamp is {0}")]
+    /// The stamp is beyond the newest one, which is given.
+    #[error("the stamp is beyond the newest one, {0}")]
     FutureStamp(Stamp),
     /// There are [`crate::MAX_HOLDS`] holds.
-    #[error("too many stamps are held")]
+    #[error("{MAX_HOLDS} stamps are held, and no more can be")]
     HoldsFull,
-    /// The allocator had no memory.
+    /// Memory cannot be allocated.
     #[error("out of memory")]
     Memory,
 }

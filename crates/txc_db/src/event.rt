@@ -8,12 +8,12 @@ use txc_rows::Change;
 use txc_stream::{Noted, Posts};
 use txc_tags::TagSet;
 
-/// What happened.
+/// The fact that an event records.
 #[derive(Drop)]
 pub enum What {
     /// A commit, with its net changes by table and id.
     Commit(Vec<Change>),
-    /// A pin of the present, at a moment in milliseconds.
+    /// A pin of the newest state, at a wall-clock time in milliseconds.
     Pin(u64),
 }
 
@@ -33,7 +33,7 @@ impl Model for Event {
 }
 
 impl Event {
-    /// The changes that it made: a pin made none.
+    /// Returns the changes that it made; a pin made none.
     pub fn net(&self) -> &[Change]
         ensures { result.now ≡ net_of self.now.fact }
     {
@@ -44,7 +44,7 @@ impl Event {
     }
 }
 
-/// Of an event that is not stored its tags are kept.
+/// The note of an event that is not stored: its tags.
 pub struct EventTags;
 
 impl Noted<Event, Arc<TagSet>> for EventTags {
@@ -54,7 +54,7 @@ impl Noted<Event, Arc<TagSet>> for EventTags {
     ghost notes = { λ event tags. arc_value tags ≡ event.tags };
 }
 
-/// Of the named history each event is posted, with its tags where it is not stored.
+/// The note that is posted of each event of the named history: its tags, unless the history is stored.
 pub struct PostedTags<J: Naming> {
     of: PhantomData<J>,
 }

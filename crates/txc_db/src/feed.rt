@@ -1,4 +1,4 @@
-//! The events of a database for those who hold no lock.
+//! The events of a database for threads without its lock.
 ghost use Rattle.std.specs.Prelude.{◌≡◌, ◌+◌, ◌<◌, ◌≤◌, ◌↔◌, ◌⊎◌, IsTrue, IfSome, IfNone, MatchOption, [], true, length, Some};
 ghost use Rattle.std.specs.Arc.{arc_value};
 ghost use Rattle.txc_stream.specs.Names.{HasRow};
@@ -13,10 +13,10 @@ use std::sync::{Arc, Wait};
 use txc_stream::{Walker, longer_of_two, prefix_of_itself};
 use txc_tags::TagSet;
 
-/// Walks through the events that a database has posted.
+/// Cursor through the posted events of a database.
 pub(crate) type EventWalker<J> = Walker<Event, Option<Arc<TagSet>>, PostedTags<J>>;
 
-/// The events of the database, one after the other, for one who holds no lock.
+/// The events of the database, one after the other, for a thread without the lock.
 ///
 /// Contracts see the events that it has seen so far, and how many of them were taken.
 #[derive(Drop)]
@@ -60,7 +60,7 @@ impl<J: Naming> Feed<J> {
         }
     }
 
-    // Shows what its walker finds.
+    // Takes over what its walker finds.
     fn walk(&mut self, rt: &impl Wait)
         ensures taken { self.new.taken ≡ self.old.taken }
         ensures longer { IsPrefix self.old.history self.new.history }
@@ -72,9 +72,9 @@ impl<J: Naming> Feed<J> {
         }
     }
 
-    /// Looks whether there is an event after those that were taken. It takes no memory, and waits for a lock once in
-    /// a thousand events at most. That `false` means that none was there yet is no clause, since one may be appended
-    /// at any moment.
+    /// Looks for an event after the taken ones, and returns `true` if there is one. It does not allocate, and
+    /// waits for a lock at most once in a thousand events. No contract states that `false` means that there was
+    /// none, since one may be appended at any time.
     pub fn look(&mut self, rt: &impl Wait) -> bool
         ensures next { IsTrue result ↔ (self.new.taken < length self.new.history) }
         ensures taken { self.new.taken ≡ self.old.taken }
@@ -84,7 +84,7 @@ impl<J: Naming> Feed<J> {
         self.taken < self.front.len()
     }
 
-    /// Takes over what a front shows beyond the events seen so far. It takes no memory.
+    /// Takes over the events that only a front shows. Does not allocate.
     pub fn longer(&mut self, other: &HistoryFront)
         requires { other.now.events ≡ J.database_history }
         ensures taken { self.new.taken ≡ self.old.taken }
@@ -95,7 +95,7 @@ impl<J: Naming> Feed<J> {
         self.front.longer(other);
     }
 
-    /// The event after those that were taken, beside its tags; none where the events are not stored.
+    /// Returns the event after the taken ones, with its tags, or `None` if events are not stored.
     pub fn next_event(&self) -> Option<&Event>
         requires { self.now.taken < length self.now.history }
         ensures event { MatchOption result
@@ -109,8 +109,8 @@ impl<J: Naming> Feed<J> {
         self.front.event_at(self.taken + 1)
     }
 
-    /// The tags of the event after those that were taken, where there is one. A feed that has seen an event of a
-    /// history that is not stored, and has not found it where the database posts them, does not know its tags.
+    /// Returns the tags of the event after the taken ones, if they are known. They are unknown if the history
+    /// is ghost and the feed has not found the event where the database posts it.
     pub fn next_tags(&self) -> Option<&TagSet>
         ensures tags { IfSome result (λ tags. (self.now.taken < length self.now.history)
             × (tags.now ≡ tags_at self.now.history (self.now.taken + 1))) }
@@ -126,7 +126,7 @@ impl<J: Naming> Feed<J> {
         self.posted_tags()
     }
 
-    // The tags of that event, where its walker stands at it and they were posted.
+    // Returns the tags of that event, if its walker is at it and they were posted.
     fn posted_tags(&self) -> Option<&TagSet>
         requires { self.now.taken < length self.now.history }
         ensures { IfSome result (λ tags. tags.now ≡ tags_at self.now.history (self.now.taken + 1)) }
@@ -144,14 +144,14 @@ impl<J: Naming> Feed<J> {
         }
     }
 
-    /// How many events were taken.
+    /// Returns how many events were taken.
     pub fn taken(&self) -> usize
         ensures { result ≡ self.now.taken }
     {
         self.taken
     }
 
-    /// Takes the event after those that were taken.
+    /// Takes the event after the taken ones.
     pub fn take(&mut self)
         requires { self.old.taken < length self.old.history }
         ensures history { self.new.history ≡ self.old.history }
@@ -161,7 +161,7 @@ impl<J: Naming> Feed<J> {
         self.taken += 1;
     }
 
-    /// A front that shows the events seen so far.
+    /// Returns a front that shows the events seen so far.
     pub fn front(&self) -> &HistoryFront
         ensures named { result.now.events ≡ J.database_history }
         ensures history { result.now.history ≡ self.now.history }

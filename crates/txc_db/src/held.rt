@@ -5,10 +5,10 @@ use crate::naming::Naming;
 use std::marker::{Model, PhantomData};
 use txc_stamp::Stamp;
 
-/// A hold of a stamp, the newest when it was taken: no vacuum passes the stamp while it is held.
+/// A hold of a stamp, which was the newest when it was taken: no vacuum passes the stamp while it is held.
 ///
-/// It cannot be let go: it is spent by [`Database::release`](crate::Database::release) alone. Contracts see
-/// the history up to the stamp.
+/// It is linear: [`Database::release`](crate::Database::release) must consume it, and code that drops it does
+/// not compile. Contracts see the history up to the stamp.
 pub struct Held<J: Naming> {
     stamp: Stamp,
     front: HistoryFront,
@@ -39,14 +39,14 @@ impl<J: Naming> Held<J> {
         }
     }
 
-    /// The stamp that is held.
+    /// Returns the held stamp.
     pub fn stamp(&self) -> Stamp
         ensures { result ≡ length self.now }
     {
         self.stamp
     }
 
-    /// The history up to the stamp.
+    /// Returns a front of the history up to the stamp.
     pub fn front(&self) -> &HistoryFront
         ensures named { result.now.events ≡ J.database_history }
         ensures history { result.now.history ≡ self.now }
@@ -54,7 +54,7 @@ impl<J: Naming> Held<J> {
         &self.front
     }
 
-    /// The stamp; the hold is not one any more.
+    /// Consumes the hold, and returns its stamp.
     pub(crate) fn spend(self) -> Stamp
         ensures { result ≡ length self }
     {

@@ -1,4 +1,4 @@
-//! The history of a database, and who lengthens it.
+//! The history of a database, and its writer.
 ghost use Rattle.std.specs.Prelude.{◌≡◌, ◌+◌, ◌<◌, ◌≤◌, ◌++◌, ◌∷◌, [], true, false, length, max, ◌⊎◌, IfOk, OnOk, OnErr, MatchOption};
 ghost use Rattle.std.specs.Arc.{arc_value};
 ghost use Rattle.txc_stamp.specs.declared.stamp.TheConstants.{MOST_STAMP};
@@ -20,12 +20,12 @@ use txc_stamp::Stamp;
 use txc_stream::{Draft, EventRow, Pen, Window};
 use txc_tags::TagSet;
 
-/// The history of a database: a front that shows the whole of it, and, where it is not stored, the window of its
-/// tags.
+/// The history of a database: a front that shows the whole of it, and, if it is ghost, a window with the tags
+/// of its last events.
 #[derive(Drop)]
 pub(crate) struct History {
     front: HistoryFront,
-    // Shows nothing, as a new reader does.
+    // Shows nothing, as the front of a new reader does.
     start: HistoryFront,
     window: Option<Window<Event, Arc<TagSet>, EventTags>>,
 }
@@ -47,7 +47,8 @@ impl Model for History {
 }
 
 impl History {
-    /// In a row, of which nothing was seen.
+    /// Makes the history of an event log, of which nothing was observed. Fails only if the log has too many
+    /// handles.
     pub(crate) fn stored(row: Arc<EventRow<Event>>) -> Result<History, AllocError>
         ensures { IfOk result (λ h. (h.events ≡ stored (arc_value row)) × (h.history ≡ []) × (h.first ≡ 0)) }
     {
@@ -60,7 +61,7 @@ impl History {
         })
     }
 
-    /// In the proofs alone, without events.
+    /// Makes a ghost history without events.
     pub(crate) fn unstored(alloc: Global, pen: Pen<Event>) -> History
         requires { pen.list ≡ [] }
         ensures { (result.events ≡ unstored pen.number) × (result.history ≡ []) × (result.first ≡ 0) }
@@ -73,7 +74,7 @@ impl History {
         }
     }
 
-    /// In the proofs alone, with one event. Its tags are not kept.
+    /// Makes a ghost history with one event, whose tags are not stored.
     pub(crate) fn begun(alloc: Global, mut pen: Pen<Event>, draft: Draft<Event>) -> History
         requires none { pen.list ≡ [] }
         requires tagged { draft.value.tags ≡ tags_between [] (state_after_event [] draft.value) }
@@ -90,14 +91,14 @@ impl History {
         }
     }
 
-    /// A front that shows the whole of it.
+    /// Returns a front that shows the whole of it.
     pub(crate) fn front(&self) -> &HistoryFront
         ensures { result.now ≡ front_in self.now }
     {
         &self.front
     }
 
-    /// How many events it has.
+    /// Returns how many events it has.
     pub(crate) fn len(&self) -> usize
         ensures shown { result ≡ length self.now.history }
         ensures most { result ≤ MOST_STAMP }
@@ -105,14 +106,14 @@ impl History {
         self.front.len()
     }
 
-    /// The stamp after its events.
+    /// Returns the stamp after its events.
     pub(crate) fn newest(&self) -> Stamp
         ensures { result ≡ length self.now.history }
     {
         self.front.newest()
     }
 
-    /// Whether there is no room for one event more.
+    /// Returns `true` if there is no room for another event.
     pub(crate) fn is_full(&self) -> bool
         ensures full { result ≡ true → length self.now.history ≡ events_room self.now.events }
         ensures room { result ≡ false → length self.now.history < events_room self.now.events }
@@ -121,7 +122,8 @@ impl History {
         self.front.is_full()
     }
 
-    /// Whether the tags of each event after the base are kept, where those after the horizon are.
+    /// Returns `true` if the tags of each event after the base are stored, provided that those after the
+    /// horizon are.
     pub(crate) fn keeps_tags(&self, horizon: Stamp, base: Stamp) -> bool
         ensures kept { result ≡ true → AreTagsKept self.now.events horizon base }
         ensures gone { result ≡ false → AreTagsGone self.now.events horizon base }
@@ -129,14 +131,14 @@ impl History {
         self.front.is_stored() || base >= horizon
     }
 
-    /// One that shows nothing yet.
+    /// Returns a front that shows nothing yet.
     pub(crate) fn start(&self) -> &HistoryFront
         ensures { result.now ≡ record { events = self.now.events; history = [] } }
     {
         &self.start
     }
 
-    // The tags that are kept of one of its events, by its number, from 1 on.
+    // Returns the stored tags of one of its events, by its number, from 1 on.
     fn kept_tags(&self, number: usize) -> &Arc<TagSet>
         requires unstored { ¬ (HasRow self.now.events) }
         requires kept { self.now.first < number }
@@ -150,7 +152,7 @@ impl History {
         window.get(number - 1)
     }
 
-    /// The tags of one of its events, by its number, from 1 on, where they are kept.
+    /// Returns the tags of one of its events, by its number, from 1 on. They are stored.
     pub(crate) fn tags_of(&self, number: usize) -> &TagSet
         requires first { 1 ≤ number }
         requires kept { ¬ (HasRow self.now.events) → self.now.first < number }
@@ -163,7 +165,8 @@ impl History {
         self.kept_tags(number)
     }
 
-    /// A handle of the tags of its last event; none where it is stored, or keeps the tags of no event.
+    /// Returns a handle of the tags of its last event, or `None` if events are stored or the tags of no event
+    /// are.
     pub(crate) fn last_tags(&self) -> Result<Option<Arc<TagSet>>, AllocError>
         ensures { IfOk result (λ tags. MatchOption tags
             (HasRow self.now.events ⊎ (length self.now.history ≤ self.now.first))
@@ -180,7 +183,7 @@ impl History {
         Ok(Some(tags))
     }
 
-    // Makes room for the tags of one event more, where they are kept.
+    // Makes room for the tags of one more event, if tags are stored.
     fn reserve(&mut self) -> Result<(), AllocError>
         ensures same { self.new ≡ record self.old { room = self.new.room } }
         ensures room { OnOk result (¬ (HasRow self.old.events) → 0 < self.new.room) }
@@ -191,7 +194,7 @@ impl History {
         }
     }
 
-    /// A commit of these net changes.
+    /// Prepares a commit of these net changes. Fails only if memory cannot be allocated.
     pub(crate) fn prepare_commit(&mut self, alloc: Global, net: Net) -> Result<Prepared, AllocError>
         ensures same { self.new ≡ record self.old { room = self.new.room } }
         ensures event { IfOk result (λ next.
@@ -217,7 +220,7 @@ impl History {
         }))
     }
 
-    /// A pin of the moment.
+    /// Prepares a pin of that wall-clock time. Fails only if memory cannot be allocated.
     pub(crate) fn prepare_pin(&mut self, alloc: Global, moment: u64) -> Result<Prepared, AllocError>
         ensures same { self.new ≡ record self.old { room = self.new.room } }
         ensures event { IfOk result (λ next. event_in next ≡ pin_event moment) }
@@ -241,8 +244,8 @@ impl History {
         }))
     }
 
-    /// Appends an event that was prepared and stands beside its tags. `false` where another record stands in its
-    /// cell, as none does where the events are not stored; then nothing has changed.
+    /// Appends a prepared event that has the tags of its changes. Returns `false`, and changes nothing, if
+    /// another record is in its cell, which cannot be if events are not stored.
     pub(crate) fn append(&mut self, next: Prepared) -> bool
         requires prepared { IsPrepared self.old next }
         requires room { length self.old.history < events_room self.old.events }
@@ -289,7 +292,7 @@ impl History {
         self.front = HistoryFront::unstored(window.front().again());
     }
 
-    /// Drops the tags of the events up to the stamp, where they are not stored. It takes no memory.
+    /// Drops the tags of the events up to the stamp, if events are not stored. Does not allocate.
     pub(crate) fn forget(&mut self, upto: usize)
         requires { upto ≤ length self.old.history }
         ensures same { self.new ≡ record self.old { first = self.new.first; room = self.new.room } }

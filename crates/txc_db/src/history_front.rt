@@ -1,4 +1,4 @@
-//! What somebody has seen of a history, wherever it goes.
+//! An observed prefix of a database's history.
 ghost use Rattle.std.specs.Prelude.{◌≡◌, ◌+◌, ◌<◌, ◌≤◌, ◌⊎◌, ◌++◌, ◌∷◌, [], true, false, length, Some, IfOk, OnOk, IfErr, IsTrue, ◌↔◌, MatchOption};
 ghost use Rattle.std.specs.Arc.{arc_value};
 ghost use mathlib.Core.List.{IsPrefix};
@@ -16,10 +16,10 @@ use std::sync::Arc;
 use txc_stamp::{MOST_STAMP, Stamp};
 use txc_stream::{EventRow, Front};
 
-/// A prefix of the history of a database, as somebody has seen it. Each event in it stands beside its tags.
+/// A prefix of the history of a database, as observed. Each event in it has the tags of its changes.
 ///
-/// Contracts see what the history is called and the events seen. Where it is stored, it has a handle of the row, so
-/// that whoever has one can read it. One whose history is not stored takes as much as a number.
+/// Contracts see the history's identity and the events seen. If the history is stored, the front has a handle
+/// of the event log, so that its owner can read it. Otherwise it is as large as a number.
 #[derive(Drop)]
 pub struct HistoryFront {
     row: Option<Arc<EventRow<Event>>>,
@@ -44,7 +44,7 @@ impl Model for HistoryFront {
 }
 
 impl HistoryFront {
-    /// A front that shows nothing yet of the row.
+    /// Makes a front that shows nothing yet of the event log.
     pub(crate) fn stored(row: Arc<EventRow<Event>>) -> HistoryFront
         ensures { result ≡ record { events = stored (arc_value row); history = [] } }
     {
@@ -55,7 +55,7 @@ impl HistoryFront {
         }
     }
 
-    /// What the front shows of a history that is not stored.
+    /// Makes a front of a history that is not stored.
     pub(crate) fn unstored(front: Front<Event>) -> HistoryFront
         requires unstored { ¬ (HasRow front.name) }
         requires tagged { AreTagged front.list }
@@ -65,8 +65,8 @@ impl HistoryFront {
         HistoryFront { row: None, front }
     }
 
-    /// A front of one's own that shows the same. It takes no memory: only a row of which there are too many handles
-    /// already refuses it.
+    /// Returns a second front that shows the same events. It does not allocate, and fails only if the event log
+    /// has too many handles.
     pub fn again(&self) -> Result<HistoryFront, AllocError>
         ensures { IfOk result (λ copy. copy ≡ self.now) }
     {
@@ -75,14 +75,14 @@ impl HistoryFront {
         Ok(HistoryFront { row, front })
     }
 
-    /// Whether its history is stored.
+    /// Returns `true` if its history is stored.
     pub fn is_stored(&self) -> bool
         ensures { IsTrue result ↔ HasRow self.now.events }
     {
         self.row.is_some()
     }
 
-    // A handle of its row, where it is stored.
+    // Returns a handle of its event log, if events are stored.
     fn row_handle(&self) -> Result<Option<Arc<EventRow<Event>>>, AllocError>
         ensures { IfOk result (λ row. MatchOption row
             (¬ (HasRow self.now.events))
@@ -94,7 +94,8 @@ impl HistoryFront {
         }
     }
 
-    /// The row of the events, where they are stored. Whoever appends to it breaks the database; tests do.
+    /// Returns the event log, if events are stored. A caller that appends to it breaks the database; tests do
+    /// so.
     pub fn events(&self) -> Option<&EventRow<Event>>
         ensures { MatchOption result
             (¬ (HasRow self.now.events))
@@ -106,7 +107,7 @@ impl HistoryFront {
         }
     }
 
-    /// The front alone, which reads the row.
+    /// Returns the plain front, which reads the log.
     pub(crate) fn front(&self) -> &Front<Event>
         ensures name { result.now.name ≡ self.now.events }
         ensures list { result.now.list ≡ self.now.history }
@@ -114,14 +115,14 @@ impl HistoryFront {
         &self.front
     }
 
-    /// Each of its events stands beside its tags. It does nothing when it runs.
+    /// Each of its events has the tags of its changes. This is a lemma: it does nothing when it runs.
     pub fn is_tagged(&self)
         ensures { AreTagged self.now.history }
     {
         let _len = self.front.len();
     }
 
-    /// How many events it shows.
+    /// Returns how many events it shows.
     pub fn len(&self) -> usize
         ensures shown { result ≡ length self.now.history }
         ensures room { result ≤ events_room self.now.events }
@@ -131,14 +132,14 @@ impl HistoryFront {
         self.front.len()
     }
 
-    /// Whether it shows no event.
+    /// Returns `true` if it shows no event.
     pub fn is_empty(&self) -> bool
         ensures { IsTrue result ↔ (self.now.history ≡ []) }
     {
         self.front.is_empty()
     }
 
-    /// For how many events its history has room.
+    /// Returns how many events its history has room for.
     pub fn room(&self) -> usize
         ensures room { result ≡ events_room self.now.events }
         ensures most { result ≤ MOST_STAMP }
@@ -150,7 +151,7 @@ impl HistoryFront {
         }
     }
 
-    /// Whether it shows as many events as there is room for.
+    /// Returns `true` if it shows as many events as there is room for.
     pub(crate) fn is_full(&self) -> bool
         ensures full { result ≡ true → length self.now.history ≡ events_room self.now.events }
         ensures room { result ≡ false → length self.now.history < events_room self.now.events }
@@ -159,14 +160,15 @@ impl HistoryFront {
         self.front.len() >= self.room()
     }
 
-    /// The stamp after the events that it shows.
+    /// Returns the stamp after the events that it shows.
     pub fn newest(&self) -> Stamp
         ensures { result ≡ length self.now.history }
     {
         Stamp::after(self.len())
     }
 
-    /// One of the events that it shows, by its number, from 1 on, and its tags; none where they are not stored.
+    /// Returns one of the events that it shows, by its number, from 1 on, with its tags, or `None` if events
+    /// are not stored.
     pub fn event_at(&self, number: usize) -> Option<&Event>
         requires first { 1 ≤ number }
         requires last { number ≤ length self.now.history }
@@ -183,8 +185,8 @@ impl HistoryFront {
         }
     }
 
-    /// Takes over what the other shows beyond this one, so that this one shows the longer history. It takes
-    /// no memory.
+    /// Takes over the events that only the other front shows, so that this one shows the longer history. Does
+    /// not allocate.
     pub fn longer(&mut self, other: &HistoryFront)
         requires { other.now.events ≡ self.old.events }
         ensures events { self.new.events ≡ self.old.events }
@@ -195,7 +197,7 @@ impl HistoryFront {
         self.see(&other.front);
     }
 
-    /// Takes over what a front alone shows beyond this one, of which each event stands beside its tags.
+    /// Takes over the events that only a plain front shows, each of which has the tags of its changes.
     pub(crate) fn see(&mut self, front: &Front<Event>)
         requires named { front.now.name ≡ self.old.events }
         requires tagged { AreTagged front.now.list }
@@ -208,7 +210,7 @@ impl HistoryFront {
         self.front.longer(front);
     }
 
-    /// Takes over the whole of a front that goes on from this one.
+    /// Takes over all events of a front that begins with this one.
     pub(crate) fn lengthen(&mut self, whole: &HistoryFront)
         requires events { self.old.events ≡ whole.now.events }
         requires begins { IsPrefix self.old.history whole.now.history }
@@ -217,7 +219,8 @@ impl HistoryFront {
         self.longer(whole);
     }
 
-    /// Of two fronts of one history, the events of one are a prefix of the other's. It does nothing when it runs.
+    /// Of two fronts of one history, the events of one are a prefix of the other's. This is a lemma: it does
+    /// nothing when it runs.
     pub fn agree(&self, other: &HistoryFront)
         requires { self.now.events ≡ other.now.events }
         ensures { IsPrefix self.now.history other.now.history ⊎ IsPrefix other.now.history self.now.history }
@@ -225,7 +228,8 @@ impl HistoryFront {
         self.front.agree(&other.front);
     }
 
-    /// Appends a stored event that stands beside its tags. `Broken` where another record stands in its cell.
+    /// Appends a stored event that has the tags of its changes. Fails as `Broken` if another record is in its
+    /// cell.
     pub(crate) fn append(&mut self, event: Box<Event>) -> Result<(), DbError>
         requires stored { HasRow self.old.events }
         requires room { length self.old.history < events_room self.old.events }

@@ -1,4 +1,4 @@
-//! The stamps that are held, one for each hold, the earliest hold first.
+//! The held stamps, one for each hold, in ascending order.
 ghost use Rattle.std.specs.Prelude.{◌≡◌, ◌<◌, ◌≤◌, true, false, length, IfSome, IfNone};
 ghost use Rattle.std.specs.List.{remove, AllByRecursion};
 ghost use Rattle.txc_db.specs.DatabaseValue.{least, without, is_held, Rises};
@@ -8,7 +8,7 @@ use txc_stamp::Stamp;
 /// The most holds at a time.
 pub const MAX_HOLDS: usize = 65_536;
 
-/// The place of the first hold of the stamp.
+/// Returns the place of the first hold of the stamp.
 pub(crate) fn place_of(holds: &[Stamp], stamp: Stamp) -> Option<usize>
     ensures within { IfSome result (λ at. at < length holds.now) }
     ensures held { IfSome result (λ at. is_held stamp holds.now ≡ true) }
@@ -23,7 +23,7 @@ pub(crate) fn place_of(holds: &[Stamp], stamp: Stamp) -> Option<usize>
     None
 }
 
-/// The least of the holds, or the newest stamp where there is none.
+/// Returns the least held stamp, or the newest stamp if none is held.
 pub(crate) fn least_held(holds: &[Stamp], newest: Stamp) -> Stamp
     requires rising { Rises holds.now }
     requires within { AllByRecursion (λ stamp. stamp ≤ newest) holds.now }

@@ -1,10 +1,10 @@
-//! What follows from the definitions. Each is a lemma: it has no code.
+//! Lemmas about the definitions. They have no code.
 ghost use Rattle.txc_db.specs.Laws.{EventTagsAreSound, StatesStay, TagsStay, PinsChangeNothing, OneHoldLess};
 ghost use Rattle.txc_db.specs.Worked.{WorkedHistory};
 
 use txc_rows::states_are_maps;
 
-/// Where an event's tags do not match a set that covers a query, its answer is the same before and after
+/// If an event's tags do not match a set that covers a query, the query's answer is the same before and after
 /// the event.
 pub fn tags_are_sound()
     ensures { EventTagsAreSound }
@@ -26,12 +26,12 @@ pub fn pins_change_nothing()
     txc_rows::tags_are_sound();
 }
 
-/// To take one hold away takes exactly one.
+/// Removing one hold removes exactly one.
 pub fn one_hold_less()
     ensures { OneHoldLess }
 {}
 
-/// The states, tags, moments and net changes of a history worked by hand.
+/// The states, tags, times and net changes of a history worked by hand.
 pub fn worked_history()
     ensures { WorkedHistory }
 {}

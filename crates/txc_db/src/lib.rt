@@ -1,9 +1,7 @@
-//! The database: one history of commits and pins, and the versions of the rows that say its kept states.
+//! The database: one history of commits and pins, and the versions of the rows that describe its kept states.
 #![tactic(auto)]
 
 mod answered;
-mod beginning;
-mod commit;
 mod database;
 mod db_core;
 mod error;
@@ -14,6 +12,7 @@ mod history;
 mod history_front;
 mod holds;
 mod laws;
+mod lock;
 mod locked;
 mod naming;
 mod net;
@@ -32,6 +31,7 @@ pub use held::Held;
 pub use history_front::HistoryFront;
 pub use holds::MAX_HOLDS;
 pub use laws::{one_hold_less, pins_change_nothing, states_stay, tags_are_sound, worked_history};
+pub use lock::lock_soon;
 pub use naming::Naming;
 pub use pinned::Pinned;
 pub use row_store::RowStore;

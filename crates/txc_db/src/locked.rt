@@ -1,4 +1,4 @@
-//! What is done to the database under its lock.
+//! The database's calls under its lock.
 ghost use Rattle.std.specs.Prelude.{◌≡◌, ◌+◌, ◌<◌, ◌≤◌, ◌++◌, ◌∷◌, [], true, false, length, Some, Err, IfOk, IfErr, IsOk, OnOk, OnErr};
 ghost use Rattle.txc_stream.specs.Posted.{PosterValue};
 ghost use Rattle.txc_stream.specs.declared.segment.TheConstants.{SEGMENT_LEN};
@@ -29,14 +29,14 @@ use txc_stream::{Poster, Slip};
 use txc_tags::TagSet;
 use txc_validity::Found;
 
-/// Posts the events of the named database.
+/// Publishes the events of the named database.
 type EventPoster<J> = Poster<Event, Option<Arc<TagSet>>, PostedTags<J>>;
 
-/// Memory for what is posted of one event.
+/// Memory for the posting of one event, allocated in advance.
 type EventSlip<J> = Slip<Event, Option<Arc<TagSet>>, PostedTags<J>>;
 
-/// What lies under the lock: the named database, and who posts its events for the feeds. While it is whole, each
-/// event is posted.
+/// The content of the lock: the named database, and the publisher of its events for the feeds. While the
+/// database is not broken, each event is posted.
 #[derive(Drop)]
 pub(crate) struct Locked<J: Naming> {
     core: DbCore,
@@ -57,7 +57,7 @@ impl<J: Naming> Model for Locked<J> {
 }
 
 impl<J: Naming> Locked<J> {
-    /// The database, whose events are posted from now on.
+    /// Wraps the database, whose events are posted from now on.
     pub(crate) fn new(alloc: Global, core: DbCore) -> Result<Locked<J>, AllocError>
         requires { core.events ≡ J.database_history }
         ensures { IfOk result (λ locked. locked ≡ core) }
@@ -66,7 +66,7 @@ impl<J: Naming> Locked<J> {
         Ok(Locked { core, poster })
     }
 
-    /// A feed of the events. Of a history that is not stored it begins after those that are there.
+    /// Returns a feed of the events. For a history that is not stored it begins after the present events.
     pub(crate) fn feed(&self) -> Result<Feed<J>, AllocError>
         ensures shown { IfOk result (λ feed. feed.history ≡ self.now.history) }
         ensures taken { IfOk result (λ feed.
@@ -78,7 +78,7 @@ impl<J: Naming> Locked<J> {
         Ok(Feed::new(front, walker, taken))
     }
 
-    // It is a database of the named row. It does nothing when it runs.
+    // It is a database with the named history. It does nothing when it runs.
     fn is_named(&self)
         ensures { IsDatabaseOf J.database_history self.now }
     {
@@ -86,7 +86,7 @@ impl<J: Naming> Locked<J> {
         let _events = self.core.history().len();
     }
 
-    /// The database alone.
+    /// Returns the database alone.
     pub(crate) fn into_core(self) -> DbCore
         ensures { IsDatabaseOf J.database_history result }
     {
@@ -219,7 +219,7 @@ impl<J: Naming> Locked<J> {
     }
 }
 
-/// How many of the events that the front shows a feed has taken that begins with it.
+/// Returns how many of the front's events a feed has taken that begins with it.
 fn begun(front: &HistoryFront) -> usize
     ensures begun { result ≡ taken_at_start front.now.events (length front.now.history) }
     ensures within { result ≤ length front.now.history }
@@ -227,7 +227,7 @@ fn begun(front: &HistoryFront) -> usize
     if front.is_stored() { 0 } else { front.len() }
 }
 
-/// Posts the last event. `false` where another record stands where it was to be posted.
+/// Posts the last event. Returns `false` if another record is in its cell.
 fn post<J: Naming>(core: &DbCore, poster: &mut EventPoster<J>, slip: EventSlip<J>) -> bool
     requires named { core.now.events ≡ J.database_history }
     requires room { length poster.old.posted < SEGMENT_LEN }
@@ -241,7 +241,7 @@ fn post<J: Naming>(core: &DbCore, poster: &mut EventPoster<J>, slip: EventSlip<J
     poster.post(slip, tags, history.front().again())
 }
 
-/// The refusal of a commit. A conflict takes the front with it.
+/// Makes the error of a commit. A conflict has the front with it.
 fn refused_with(front: HistoryFront, refusal: DbError) -> CommitError
     ensures { IsRefusalWith front refusal result }
 {

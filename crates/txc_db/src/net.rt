@@ -1,7 +1,7 @@
 use txc_rows::Change;
 use txc_tags::TagSet;
 
-/// The changes that make another state of the newest one, and the tags of the rows that they find or put.
+/// The net changes of the newest state, and the tags of the rows that they replace or put.
 #[derive(Drop)]
 pub(crate) struct Net {
     pub(crate) changes: Vec<Change>,

@@ -6,7 +6,7 @@ use txc_stamp::Stamp;
 
 /// A pin of the history, held at its stamp.
 ///
-/// Its front shows it: the event of that stamp is a pin of that moment, in milliseconds.
+/// Its front proves it: the event of that stamp is a pin of that wall-clock time, in milliseconds.
 #[derive(Drop)]
 pub struct Pinned {
     pub stamp: Stamp,

@@ -1,4 +1,4 @@
-//! Events that are ready to be appended.
+//! Events for which all memory is allocated.
 ghost use Rattle.std.specs.Prelude.{◌≡◌};
 ghost use Rattle.std.specs.Arc.{arc_value};
 ghost use Rattle.txc_db.specs.Facts.{net_of};
@@ -10,7 +10,7 @@ use txc_rows::Change;
 use txc_stream::{Draft, Drafts};
 use txc_tags::TagSet;
 
-/// The event of a commit, by its net changes.
+/// The event of a commit, made of its net changes.
 pub(crate) struct AsCommit;
 
 impl Drafts<Net, Event> for AsCommit {
@@ -19,7 +19,7 @@ impl Drafts<Net, Event> for AsCommit {
     ghost record_of = { λ net. record { fact = commit net.changes.items; tags = net.tags } };
 }
 
-/// The event of a pin, by its moment.
+/// The event of a pin, made of its wall-clock time.
 pub(crate) struct AsPin;
 
 impl Drafts<u64, Event> for AsPin {
@@ -28,7 +28,7 @@ impl Drafts<u64, Event> for AsPin {
     ghost record_of = { λ moment. pin_event moment };
 }
 
-/// An event that is not stored: what the database and its readers need of it, and the event in the proofs.
+/// An event that is not stored: the parts that the database and its readers need, and the ghost event.
 #[derive(Drop)]
 pub(crate) struct Loose {
     pub(crate) changes: Vec<Change>,
@@ -38,7 +38,7 @@ pub(crate) struct Loose {
     ghost noted: { arc_value tags ≡ draft.value.tags },
 }
 
-/// An event for which all memory is there.
+/// An event for which all memory is allocated.
 #[derive(Drop)]
 pub(crate) enum Prepared {
     Stored(Box<Event>),
@@ -48,7 +48,7 @@ pub(crate) enum Prepared {
 impl Prepared {
     ghost use Rattle.txc_db.specs.Held.{event_in};
 
-    /// The changes that it makes: a pin makes none.
+    /// Returns the changes that it makes; a pin makes none.
     pub(crate) fn net(&self) -> &[Change]
         ensures { result.now ≡ net_of (event_in self.now).fact }
     {

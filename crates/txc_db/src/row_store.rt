@@ -1,4 +1,4 @@
-//! The stores that can keep the current versions of a database.
+//! The stores of the current versions of a database's rows.
 ghost use Rattle.std.specs.Prelude.{◌≡◌, [], IfErr, IfOk, ℕ};
 ghost use Rattle.txc_rows.specs.States.{State};
 ghost use Rattle.txc_rows.specs.Keeping.{KeepsStates};
@@ -7,17 +7,18 @@ ghost use Rattle.txc_rows.specs.StoreErrors.{IsStoreRefusal};
 use std::alloc::Global;
 use txc_rows::{StoreError, VersionRows};
 
-/// The store of the current versions of rows. Every call of a database has the same answer over both.
+/// The store of the current versions of rows. Each call of a database has the same result over both.
 #[derive(Clone, Copy, Debug, PartialEq, Eq)]
 pub enum RowStore {
-    /// A table of SQLite: the default.
+    /// A table of SQLite, the default.
     Sql,
-    /// Ordered maps, by table and id and by table and group: for small rows that are written more often than they are read.
+    /// Ordered maps in memory, by table and id and by table and group: for small rows that are written more
+    /// often than they are read.
     Plain,
 }
 
 impl RowStore {
-    /// Opens a store of this kind that has no version. Fails if there is no memory for it.
+    /// Opens an empty store of this kind. Fails if there is no memory for it.
     pub(crate) fn open(self, alloc: Global) -> Result<VersionRows, StoreError>
         ensures answer { IfOk result (λ rows. rows ≡ []) }
         ensures keeps { IfOk result (λ rows.

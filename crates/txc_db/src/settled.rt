@@ -1,4 +1,4 @@
-//! What a list of changes gives: the last one of each table and id, by table and id.
+//! The last change of each table and id in a list of changes, by table and id.
 ghost use Rattle.std.specs.Prelude.{◌≡◌, ◌≤◌, ◌∷◌, [], ℕ, OnOk, IfOk, MatchOption, length, flat_map};
 ghost use Rattle.std.specs.List.{insert, list_any};
 ghost use Rattle.txc_tags.specs.Tags.{with_tags};
@@ -19,8 +19,7 @@ fn is_key_before(one: &Change, other: &Change) -> bool
     table < other_table || table == other_table && one.id() < other.id()
 }
 
-/// Where the change belongs among those that settle later ones, or none where one of them has its table and
-/// id.
+/// Returns the change's place among the settled later ones, or `None` if one of them has its table and id.
 fn place_of(change: &Change, settled: &[Change]) -> Option<usize>
     ensures { MatchOption result (placed change.now settled.now ≡ settled.now)
         (λ at. (at ≤ length settled.now)
@@ -37,7 +36,7 @@ fn place_of(change: &Change, settled: &[Change]) -> Option<usize>
     Some(settled.len())
 }
 
-/// The last change of each table and id, by table and id.
+/// Returns the last change of each table and id, by table and id. Fails only if memory cannot be allocated.
 pub(crate) fn settle(alloc: Global, changes: &[Change]) -> Result<Vec<Change>, AllocError>
     ensures { IfOk result (λ last. last.items ≡ settled changes.now) }
 {
@@ -59,7 +58,7 @@ fn has_row(rows: &[Row], row: &Row) -> bool
     rows.iter().any(|old| row == old)
 }
 
-/// Whether the change makes another state, where these are the rows at its table and id.
+/// Returns `true` if the change makes another state, given the rows at its table and id.
 pub(crate) fn makes_another(change: &Change, rows: &[Row]) -> bool
     ensures { (s : State) → rows.now ≡ answer (ById (change_table change.now) (change_id change.now)) s
         → result ≡ changes_state s change.now }
@@ -70,7 +69,7 @@ pub(crate) fn makes_another(change: &Change, rows: &[Row]) -> bool
     }
 }
 
-/// Adds the tags of a row: its id's and its group's.
+/// Adds the tags of a row: its id's and its group's. Fails only if memory cannot be allocated.
 fn add_row(tags: &mut TagSet, row: &Row) -> Result<(), AllocError>
     ensures { OnOk result (tags.new ≡ with_tags (tags_of_row row.now) tags.old) }
 {
@@ -79,7 +78,7 @@ fn add_row(tags: &mut TagSet, row: &Row) -> Result<(), AllocError>
     Ok(())
 }
 
-/// Adds the tags of the rows.
+/// Adds the tags of the rows. Fails only if memory cannot be allocated.
 pub(crate) fn add_rows(tags: &mut TagSet, rows: &[Row]) -> Result<(), AllocError>
     ensures { OnOk result (tags.new ≡ with_tags (flat_map tags_of_row rows.now) tags.old) }
 {
@@ -98,7 +97,7 @@ fn add_put(tags: &mut TagSet, change: &Change) -> Result<(), AllocError>
     }
 }
 
-/// Adds the tags of the rows that the changes put.
+/// Adds the tags of the rows that the changes put. Fails only if memory cannot be allocated.
 pub(crate) fn add_puts(tags: &mut TagSet, changes: &[Change]) -> Result<(), AllocError>
     ensures { OnOk result (tags.new ≡ with_tags (flat_map tags_of_row (puts_of changes.now)) tags.old) }
 {

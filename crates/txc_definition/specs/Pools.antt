@@ -1,4 +1,4 @@
--- Which pool an object has its permits of.
+-- The pool of an object's permits.
 use Rattle.txc_permits.specs.Counting.{Pool}
 use Rattle.txc_definition.specs.declared.definition.Definition.{Ghosts}
 use Rattle.txc_definition.specs.declared.function.Function.{Function}

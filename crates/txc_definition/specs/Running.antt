@@ -1,4 +1,4 @@
--- What an object does that holds this.
+-- The state of an object with this content.
 use Rattle.std.specs.Prelude.{Option, Some, None}
 use Rattle.txc_registry.specs.Activity.{Activity, idle, running}
 use Rattle.txc_definition.specs.declared.held.Held.{Held}

@@ -4,28 +4,28 @@ ghost use Rattle.txc_registry.specs.Activity.{Says, WantsAnswer};
 use std::alloc::{AllocError, Global};
 use txc_app::{Answer, Ask};
 
-/// What a function asks and gives, by its arguments and the answers so far.
+/// A function without state: its next step by its arguments and the answers so far.
 pub trait Definition: Drop {
     // The number of the function.
     ghost number: { Self → ℕ };
 
-    // What it asks next, or gives. None: it refuses the arguments.
+    // Its next step: a request, or its value. None if it does not take the arguments.
     ghost says: { Self → Says };
 
-    /// The number of the function.
+    /// Returns the number of the function.
     fn number(&self) -> u8
         ensures { result ≡ number self.now };
 
-    /// Whether it takes these arguments.
+    /// Returns `true` if it takes these arguments.
     fn accepts(&self, args: &[u32]) -> bool
         ensures { (result ≡ false) ↔ (says self.now args.now [] ≡ None) };
 
-    /// What it asks first.
+    /// Returns its first step. Fails only if memory cannot be allocated.
     fn first(&self, alloc: Global, args: &[u32]) -> Result<Ask, AllocError>
         requires { says self.now args.now [] ≢ None }
         ensures { IfOk result (λ ask. says self.now args.now [] ≡ Some ask) };
 
-    /// What it asks after these answers and one more.
+    /// Returns its step after these answers and one more. Fails only if memory cannot be allocated.
     fn next(
         &self,
         alloc: Global,

@@ -8,7 +8,7 @@ use txc_app::{Answer, Ask};
 use txc_permits::PermitPool;
 use txc_registry::{Cacheable, CallFault};
 
-/// The object of a function. A permit of its pool is out while it runs an activation, and only then.
+/// The object of a function. A permit of its pool is out exactly while it runs an activation.
 pub struct Function<D: Definition> {
     definition: D,
     alloc: Global,
@@ -21,8 +21,8 @@ impl<D: Definition> Function<D> {
     ghost use Rattle.txc_registry.specs.Activity.{idle};
     ghost use Rattle.txc_definition.specs.Pools.{pool_of};
 
-    /// The object of the function with this definition, idle. It takes its memory from the allocator, and its
-    /// permit from the pool, as it runs.
+    /// Makes the idle object of the function with this definition. While it runs, it allocates with the
+    /// allocator, and has a permit of the pool.
     pub fn new(alloc: Global, pool: PermitPool, definition: D) -> Function<D>
         ensures idle { ⟦<Function<D> as Cacheable>⟧.activity result ≡ idle }
         ensures number { ⟦<Function<D> as Cacheable>⟧.number result ≡ D.number definition }
@@ -37,7 +37,7 @@ impl<D: Definition> Function<D> {
         }
     }
 
-    // What is asked first, and the arguments to keep.
+    // Returns the first step, and the arguments to keep.
     fn first(&self, args: &[u32]) -> Result<(Ask, Vec<u32>), AllocError>
         requires { D.says self.now.definition args.now [] ≢ None }
         ensures asks { IfOk result (λ made. D.says self.now.definition args.now [] ≡ Some made.0) }

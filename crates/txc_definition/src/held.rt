@@ -6,8 +6,8 @@ use std::alloc::{AllocError, Global};
 use txc_app::{Answer, Ask};
 use txc_permits::Grant;
 
-/// What a running object holds: its permit, its arguments and the answers so far. It cannot be let go: the
-/// permit is given back.
+/// The state of a running object: its permit, its arguments and the answers so far. It is linear, since the
+/// permit must be returned.
 pub struct Held {
     pub(crate) grant: Grant,
     pub(crate) args: Vec<u32>,
@@ -27,7 +27,7 @@ impl Held {
         }
     }
 
-    /// Frees the memory, and gives the permit back to its pool.
+    /// Frees the memory, and returns the permit to its pool.
     pub(crate) fn give_back(self) {
         let Held {
             grant,
@@ -37,7 +37,8 @@ impl Held {
         grant.give_back();
     }
 
-    /// What is asked after one answer more, which is kept only where that can be said.
+    /// Returns the step after one more answer, which it keeps only if this succeeds. Fails only if memory
+    /// cannot be allocated.
     pub(crate) fn go_on<D: Definition>(
         &mut self,
         definition: &D,

@@ -1,9 +1,9 @@
-//! Functions of one's own, as objects that hold a permit while they run.
+//! Functions that a program defines, as objects with a permit while they run.
 //!
-//! What a function asks and gives is its [`Definition`], which has no state. A [`Function`] is the object of
-//! one: it takes a permit of its pool as an activation begins, keeps the arguments and the answers, and gives
-//! all back as the activation ends. A function whose asks are known from its arguments is [`Straight`], and
-//! [`InTurn`] makes its definition; [`Or`] makes one type of two definitions, and so of many.
+//! A [`Definition`] specifies the requests and the value of a function, and has no state. A [`Function`] is its
+//! object: it takes a permit of its pool when an activation begins, keeps the arguments and the answers, and
+//! returns all when the activation ends. A function whose requests follow from its arguments alone is
+//! [`Straight`], and [`InTurn`] makes its definition; [`Or`] makes one type of two definitions, and so of many.
 #![tactic(auto)]
 
 mod definition;

@@ -2,7 +2,7 @@ use crate::definition::Definition;
 use std::alloc::{AllocError, Global};
 use txc_app::{Answer, Ask};
 
-/// One of two definitions. Of many it is one or one of the others, as `Or<A, Or<B, C>>`.
+/// One of two definitions, as one type. For more of them, nest it: `Or<A, Or<B, C>>`.
 #[derive(Drop)]
 pub enum Or<D: Definition, E: Definition> {
     One(D),

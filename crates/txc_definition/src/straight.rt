@@ -6,32 +6,33 @@ use crate::definition::Definition;
 use std::alloc::{AllocError, Global};
 use txc_app::{Answer, Ask, Bytes};
 
-/// A function whose asks are known from its arguments. It refuses the arguments for which it would ask nothing.
-/// [`InTurn`] makes its definition.
+/// A function whose requests follow from its arguments alone. It does not take arguments for which it would
+/// request nothing. [`InTurn`] makes its definition.
 pub trait Straight: Drop {
     // The number of the function.
     ghost number: { Self → ℕ };
 
-    // What it asks, in turn, by its arguments.
+    // Its requests, in turn, by its arguments.
     ghost asks: { Self → List ℕ → List Ask };
 
-    // What it gives, by its arguments and all answers.
+    // Its value, by its arguments and all answers.
     ghost gives: { Self → List ℕ → List Answer → List ℕ };
 
-    /// The number of the function.
+    /// Returns the number of the function.
     fn number(&self) -> u8
         ensures { result ≡ number self.now };
 
-    /// How many asks it has.
+    /// Returns how many requests it makes.
     fn count(&self, args: &[u32]) -> usize
         ensures { result ≡ length (asks self.now args.now) };
 
-    /// The ask after so many others.
+    /// Returns the request at a place, counted from 0. Fails only if memory cannot be allocated.
     fn ask(&self, alloc: Global, args: &[u32], at: usize) -> Result<Ask, AllocError>
         requires { at < length (asks self.now args.now) }
         ensures { IfOk result (λ ask. slice_get (asks self.now args.now) at ≡ Some ask) };
 
-    /// What it gives once all is answered: the answers but the last one, and that one.
+    /// Returns its value, by all answers: those before the last one, and that one. Fails only if memory cannot
+    /// be allocated.
     fn give(
         &self,
         alloc: Global,
@@ -43,7 +44,8 @@ pub trait Straight: Drop {
         ensures { IfOk result (λ bytes. bytes ≡ gives self.now args.now (answers.now ++ last.now ∷ [])) };
 }
 
-/// The definition of a function whose asks are known from its arguments: it asks them in turn, and then gives.
+/// The definition of a function whose requests follow from its arguments: it makes them in turn, and then
+/// returns its value.
 #[derive(Drop)]
 pub struct InTurn<S: Straight>(pub S);
 

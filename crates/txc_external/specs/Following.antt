@@ -11,7 +11,7 @@ use Rattle.txc_external.specs.Snapshots.{Tag, Snapshots, last_snapshot, is_noted
 abbrev pub PutsVersion : Snapshots → ℕ → Change → Type 0
 PutsVersion D k c = (t : Tag) × (is_noted D k t ≡ true) × (c ≡ Put (version_row t k))
 
--- the event is a commit of such changes alone
+-- the event is a commit of only such changes
 abbrev pub IsStepCommit : Snapshots → ℕ → Fact → Type 0
 IsStepCommit D k (commit net) = AllByRecursion (PutsVersion D k) net
 IsStepCommit D k (pin moment) = ⊥
@@ -25,9 +25,9 @@ abbrev pub PutAll : Snapshots → ℕ → List EventValue → Type 0
 PutAll D k events = (t : Tag) → is_noted D k t ≡ true
     → Contains (flat_map (λ e. net_of e.fact) events) (Put (version_row t k))
 
--- The history has followed the snapshots up to snapshot k. It is empty, and k is 0. Or it goes on with a pin, whose
--- moment is not after that of snapshot k. Or it goes on with the commits of the next step, which put all of its
--- versions, and neither a pin nor any other commit stands between them.
+-- The history has followed the snapshots up to snapshot k. It is empty, and k is 0. Or it continues with a pin,
+-- whose time is not after that of snapshot k. Or it continues with the commits of the next step, which put all
+-- of its versions, and neither a pin nor any other commit is between them.
 pub data HasFollowed (D : Snapshots) : History → ℕ → Type 0 where
   start : HasFollowed D [] 0
   pinned : (L : History) (k moment : ℕ) → HasFollowed D L k → moment ≤ D.moment k

@@ -1,4 +1,4 @@
--- A service's functions: what their calls give without a cache, and how they are computed over versions.
+-- A service's functions: the uncached values of their calls, and their computation over versions.
 use Rattle.std.specs.Prelude.{ℕ, zero, suc, max, ◌==◌, if◌then◌else◌, List, [], ◌∷◌, ◌++◌, length, take, drop, Option, Some, None}
 use Rattle.std.specs.Option.{option_and_then}
 use Rattle.std.specs.Str.Parse.{digits_value}
@@ -19,8 +19,8 @@ pub data OwnAct : Type 0 where
   call : Call → OwnAct
   done : List ℕ → OwnAct
 
--- a service's functions: the next act of a function, by its number, its arguments and the results of its reads and
--- calls so far, and none if it rejects them; and their limits
+-- a service's functions: the next act of a function, by its number, its arguments and the results of its reads
+-- and calls so far, and none if it rejects them; and their limits
 pub record Functions : Type 0 where
   pub acts : ℕ → List ℕ → List (List ℕ) → Option OwnAct
   pub limits : Limits
@@ -36,7 +36,7 @@ after_act find calls (Some (done bytes)) rest = Some bytes
 after_act find calls (Some (read r)) rest = rest (find r)
 after_act find calls (Some (call k)) rest = option_and_then rest (calls k)
 
--- a computation that may act so many times more, being done counted, after these results
+-- a computation after these results that may make this many more acts, the last of which returns its value
 unfoldable pub computed : (List (List ℕ) → Option OwnAct) → (Read → List ℕ) → Results → ℕ → List (List ℕ) → Option (List ℕ)
 computed acts find calls zero results = None
 computed acts find calls (suc left) results =
@@ -49,7 +49,8 @@ uncached_below own find (suc f) k = if k.function == f
     then computed (own.acts k.function k.args) find (uncached_below own find f) own.limits.asks []
     else uncached_below own find f k
 
--- the result of a call if reads find this, with no cache and no versions; a function may call those of a lower number
+-- the result of a call if reads find this, with no cache and no versions; a function may call those of a lower
+-- number
 abbrev pub uncached : Functions → (Read → List ℕ) → Results
 uncached own find k = uncached_below own find (suc k.function) k
 
@@ -69,9 +70,9 @@ abbrev pub tag_or : List Tag → Option Ask → Option Ask
 tag_or [] other = other
 tag_or (t ∷ ts) other = Some (asks.Query (ById t.table t.id))
 
--- The next ask of an act. A read asks for the version of each tag on which it depends, one after the other. Once as many
--- answers are there, its result is that of the first snapshot with these versions, which any other with them has too
--- (`FoundInEachSuchSnapshot`), and the function goes on with the other answers.
+-- The next request of an act. A read requests the version of each tag on which it depends, one after the other.
+-- Once it has as many answers, its result is that of the first snapshot with these versions, which any other
+-- with them has too (`FoundInEachSuchSnapshot`), and the function continues with the other answers.
 abbrev pub ask_for : Snapshots → Option OwnAct → List Answer → (List ℕ → List Answer → Option Ask) → Option Ask
 ask_for D None given go_on = None
 ask_for D (Some (done bytes)) given go_on = Some (asks.Done bytes)
@@ -82,7 +83,7 @@ ask_for D (Some (read r)) given go_on =
     let tags = D.tags_of r in let versions = take (length tags) given in
     tag_or (drop (length given) tags) (go_on (D.find (first_with versions) r) (drop (length tags) given))
 
--- the next ask of a function that may act so many times more, after these results and then these answers
+-- the next request of a function with a limit on its further acts, after these results and then these answers
 unfoldable pub ask_after : Snapshots → (List (List ℕ) → Option OwnAct) → ℕ → List (List ℕ) → List Answer → Option Ask
 ask_after D acts zero results given = None
 ask_after D acts (suc left) results given =

@@ -13,13 +13,14 @@ use Rattle.txc_external.specs.Following.{HasFollowed, FollowsSnapshots}
 abbrev pub AreNumbered : Snapshots → Type 0
 AreNumbered D = last_snapshot D < 2 ^ 64
 
--- a read may be made in any snapshot in which its tags have their versions: it finds the same as in the first of these
+-- a read may be made in any snapshot in which its tags have their versions: it finds the same as in the first
+-- of these
 abbrev pub FoundInEachSuchSnapshot : Type 0
 FoundInEachSuchSnapshot = (D : Snapshots) (r : Read) (k : ℕ) → ReadsAreCovered D → AreNumbered D → k ≤ last_snapshot D
     → D.find (first_with (map (λ t. answers.Rows (version_rows t (last_noted D t k))) (D.tags_of r))) r ≡ D.find k r
 
--- a value that a call has over the version table of a snapshot is its result if reads find what this snapshot has,
--- with no cache
+-- a value that a call has over the version table of a snapshot is its result if reads find what this snapshot
+-- has, with no cache
 abbrev pub ValuesAreUncached : Snapshots → Type 0
 ValuesAreUncached D = (own : Functions) (k : ℕ) (s : State) (call : Call) (value : List ℕ)
     → k ≤ last_snapshot D → IsVersionTable D k s
@@ -29,12 +30,14 @@ ValuesAreUncached D = (own : Functions) (k : ℕ) (s : State) (call : Call) (val
 abbrev pub CachedIsUncached : Type 0
 CachedIsUncached = (D : Snapshots) → ReadsAreCovered D → AreNumbered D → ValuesAreUncached D
 
--- each beginning of a history that follows the snapshots follows them too: so does what a receipt has seen of it
+-- each beginning of a history that follows the snapshots follows them too: so does what a receipt has seen of
+-- it
 abbrev pub BeginningsFollow : Type 0
 BeginningsFollow = (D : Snapshots) (L : History) (n : ℕ) → FollowsSnapshots D L → FollowsSnapshots D (take n L)
 
--- The pin at this stamp, of this moment, shows a snapshot: the history up to and with the pin has followed the snapshots up
--- to it. The state there is the snapshot's version table, and the pin's moment is not after the snapshot's.
+-- The pin at this stamp, of this moment, shows a snapshot: the history up to and with the pin has followed the
+-- snapshots up to it. The state there is the snapshot's version table, and the pin's moment is not after the
+-- snapshot's.
 pub record ShowsSnapshot (D : Snapshots) (L : History) (stamp moment : ℕ) : Type 0 where
   pub number : ℕ
   pub taken : number ≤ last_snapshot D

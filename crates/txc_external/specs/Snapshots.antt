@@ -14,9 +14,9 @@ pub record Tag : Type 0 where
   pub table : ℕ
   pub id : ℕ
 
--- The snapshots that a service took of its database, by number, the first one 0. Each step from a snapshot to the next one
--- has the tags that were noted in it. A read has the tags on which it depends, and the bytes that it finds in a snapshot.
--- A snapshot began at its moment or after it.
+-- The snapshots that a service took of its database, by number, the first one 0. Each step from a snapshot to
+-- the next one has the tags that were noted in it. A read has the tags on which it depends, and the bytes that
+-- it finds in a snapshot. A snapshot began at its moment or after it.
 pub record Snapshots : Type 0 where
   pub steps : List (List Tag)
   pub tags_of : Read → List Tag
@@ -63,7 +63,7 @@ abbrev pub version_rows : Tag → Option ℕ → List RowValue
 version_rows t None = []
 version_rows t (Some n) = version_row t n ∷ []
 
--- The state of the cache's own rows is the version table of snapshot k: under each tag it has the number of the last step,
--- k at most, that noted it, and no row if there is none.
+-- The state of the cache's own rows is the version table of snapshot k: under each tag it has the number of the
+-- last step, k at most, that noted it, and no row if there is none.
 abbrev pub IsVersionTable : Snapshots → ℕ → State → Type 0
 IsVersionTable D k s = (t : Tag) → answer (ById t.table t.id) s ≡ version_rows t (last_noted D t k)

@@ -1,4 +1,4 @@
--- Three snapshots worked by hand, and two that go wrong: a note is missing, and a pin stands within a step.
+-- Three snapshots worked by hand, and two faulty histories: a note is missing, and a pin is within a step.
 use Rattle.std.specs.Prelude.{◌≡◌, ℕ, zero, suc, ◌*◌, ◌≤◌, Bool, true, false, List, [], ◌∷◌, ◌++◌, take, Option, Some, None, codes}
 use Rattle.std.specs.Str.{bytes_eq}
 use Rattle.txc_tags.specs.Keys.{Call}
@@ -55,7 +55,7 @@ noted steps = record {
 abbrev pub worked_database : Snapshots
 worked_database = noted ((item ∷ []) ∷ (item ∷ bids ∷ item ∷ []) ∷ [])
 
--- function 0 gives the highest bid, and function 1 the price before what function 0 gives
+-- function 0 returns the highest bid, and function 1 the price before the value of function 0
 abbrev pub worked_acts : ℕ → List (List ℕ) → Option OwnAct
 worked_acts zero [] = Some (read highest)
 worked_acts zero (bid ∷ more) = Some (done bid)
@@ -86,7 +86,7 @@ pub record WorkedSnapshots : Type 0 where
   pub second : IsVersionTable worked_database 1 table_1
   pub third : IsVersionTable worked_database 2 table_2
 
--- the call has this value over the state, and it gives this in snapshot k with no cache
+-- the call has this value over the state, and as its uncached value in snapshot k
 abbrev pub HasBoth : ℕ → State → List ℕ → Type 0
 HasBoth k s value = (eval (over_versions worked_database worked_functions) page s ≡ Some value)
     × (uncached worked_functions (worked_database.find k) page ≡ Some value)
@@ -113,7 +113,7 @@ pub record WorkedFollowing : Type 0 where
   pub second : state_at worked_history 3 ≡ table_1
   pub third : state_at worked_history 6 ≡ table_2
 
--- ---- what goes wrong
+-- ---- examples that fail
 
 -- the second step did not note the item
 abbrev pub missing : Snapshots
@@ -125,8 +125,8 @@ missing_table = version_row item 1 ∷ version_row bids 2 ∷ []
 abbrev pub missing_history : History
 missing_history = puts item 1 ∷ puts bids 2 ∷ pin_event 2000 ∷ []
 
--- Then a cached value is the uncached one of no snapshot: the price of the second beside the bid of the third. So what
--- follows from the premise is false.
+-- Then a cached value is the uncached one of no snapshot: the price of the second with the bid of the third. So
+-- the conclusion of the law is false without its premise.
 pub record MissingNote : Type 0 where
   pub numbered : AreNumbered missing
   pub follows : FollowsSnapshots missing missing_history
@@ -141,7 +141,8 @@ pub record MissingNote : Type 0 where
 abbrev pub torn_history : History
 torn_history = pin_event 0 ∷ puts item 1 ∷ pin_event 900 ∷ puts item 2 ∷ pin_event 2000 ∷ puts bids 2 ∷ []
 
--- the state at that pin is the version table of no snapshot: it has the price of the third beside the bid of the first
+-- the state at that pin is the version table of no snapshot: it has the price of the third with the bid of the
+-- first
 pub record PinWithinStep : Type 0 where
   pub none : (k : ℕ) → k ≤ 2 → IsVersionTable worked_database k (state_at torn_history 5) → ⊥
   pub torn : eval (over_versions worked_database worked_functions) page (state_at torn_history 5) ≡ Some (codes "cp")

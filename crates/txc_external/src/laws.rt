@@ -1,18 +1,18 @@
-//! Laws of a service's own database. Each is a theorem: it has no code.
+//! Laws of a service's own database. Each is a theorem without code.
 ghost use Rattle.txc_external.specs.Laws.{FoundInEachSuchSnapshot, CachedIsUncached, BeginningsFollow, PinsShowVersionTables};
 ghost use Rattle.txc_external.specs.Worked.{WorkedSnapshots, WorkedValues, WorkedFollowing, MissingNote, PinWithinStep};
 
-/// A read finds the same in all snapshots in which the tags that it covers have the same versions.
+/// A read has the same result in all snapshots in which the tags that it covers have the same versions.
 pub fn versions_decide_a_read()
     ensures { FoundInEachSuchSnapshot }
 {}
 
-/// A value that the cache gives over the version table of a snapshot is the uncached value in that snapshot.
+/// A value that the cache returns over the version table of a snapshot is the uncached value in that snapshot.
 pub fn cached_is_uncached()
     ensures { CachedIsUncached }
 {}
 
-/// Each beginning of a history that follows the snapshots follows them too.
+/// Each prefix of a history that follows the snapshots follows them too.
 pub fn beginnings_follow()
     ensures { BeginningsFollow }
 {}
@@ -22,14 +22,15 @@ pub fn pins_show_version_tables()
     ensures { PinsShowVersionTables }
 {}
 
-/// Three snapshots, two functions of which one calls the other, and a tag that is noted twice.
+/// A worked example: three snapshots, two functions of which one calls the other, and a tag that is noted
+/// twice.
 pub fn worked_snapshots()
     ensures snapshots { WorkedSnapshots }
     ensures calls { WorkedValues }
     ensures history { WorkedFollowing }
 {}
 
-/// Without the premise a cached value may be the uncached one of no snapshot.
+/// Without the premise, a cached value may be the uncached one of no snapshot.
 pub fn the_premise_is_needed()
     ensures { MissingNote }
 {}

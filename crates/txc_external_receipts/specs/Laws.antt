@@ -12,9 +12,9 @@ use Rattle.txc_external.specs.Following.{HasFollowed, FollowsSnapshots}
 use Rattle.txc_external.specs.Laws.{AreNumbered}
 use Rattle.txc_external.specs.Worked.{missing}
 
--- The receipt is of snapshot k: the history up to and with its pin has followed the snapshots up to k. The moment of the
--- snapshot is no older than the bounds allow, and the pin not before the stamp that they ask for. Each answer is the
--- result of its call if reads find what this snapshot has, with no cache.
+-- The receipt is of snapshot k: the history up to and with its pin has followed the snapshots up to k. The
+-- moment of the snapshot is no older than the bounds allow, and the pin not before the stamp that they ask for.
+-- Each answer is the result of its call if reads find what this snapshot has, with no cache.
 pub record IsOfSnapshot (D : Snapshots) (own : Functions) (L : History) (bounds : Bounds) (pin : Pin) (answers : List Recorded) (k : ℕ) : Type 0 where
   pub taken : k ≤ last_snapshot D
   pub followed : HasFollowed D (take pin.stamp L) k

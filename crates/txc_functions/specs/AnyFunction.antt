@@ -15,7 +15,7 @@ number_of (functions.Itself f) = 4
 number_of (functions.Again f) = 5
 number_of (functions.IdsIn f) = 6
 
--- what it asks, and gives
+-- its asks, and its value
 abbrev pub says_of : AnyFunction → Says
 says_of f = program.says (number_of f)
 

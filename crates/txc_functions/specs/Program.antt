@@ -1,4 +1,4 @@
--- The functions of the program: what each asks, and gives, by its arguments and the answers so far.
+-- The functions of the program: the next ask of each, or its value, by its arguments and the answers so far.
 use Rattle.std.specs.Prelude.{ℕ, ◌==◌, if◌then◌else◌, List, [], ◌∷◌, ◌++◌, length, map, Option, Some, None}
 use Rattle.std.specs.Fmt.{decimal}
 use Rattle.std.specs.List.{join_with_byte}
@@ -101,6 +101,6 @@ functions f =
     else (if f == 6 then ids_in
     else refuses))))))
 
--- what they mean, within the limits of the program
+-- their meaning, within the limits of the program
 abbrev pub program : Next
 program = record { says = functions; limits = small_limits }

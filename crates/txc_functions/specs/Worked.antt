@@ -14,11 +14,11 @@ use Rattle.txc_functions.specs.Program.{program, call_of, bodies_of}
 abbrev pub value_at : ℕ → Call → Option (List ℕ)
 value_at t k = eval program k (state_at worked t)
 
--- a row of group 2, whose body has so many bytes
+-- a row of group 2, with a body of `bytes` bytes
 abbrev pub long_row : ℕ → ℕ → RowValue
 long_row id bytes = record { table = 1; id = id; group = 2; body = replicate bytes 97 }
 
--- four rows, of which the last has so many bytes, and the others the most
+-- four rows: the body of the last has `bytes` bytes, those of the others the most
 abbrev pub long_rows : ℕ → State
 long_rows bytes = long_row 1 256 ∷ long_row 2 256 ∷ long_row 3 256 ∷ long_row 4 bytes ∷ []
 
@@ -40,8 +40,8 @@ pub record WorkedCalls : Type 0 where
   pub longest : eval program (call_of 1 (2 ∷ [])) (long_rows 253) ≡ Some (bodies_of (long_rows 253))
   pub longest_length : length (bodies_of (long_rows 253)) ≡ 1024
 
--- no value: the arguments are refused; a call is of the function itself; a 65th ask would be made; the
--- value is too long; there is no such function
+-- calls without a value: the arguments are wrong; a call is of the function itself; a 65th ask would be made;
+-- the value is too long; there is no such function
 pub record WorkedRefusals : Type 0 where
   pub arguments : value_at 4 (call_of 0 []) ≡ None
   pub one_end : value_at 4 (call_of 6 (7 ∷ [])) ≡ None

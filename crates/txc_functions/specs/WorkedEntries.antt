@@ -6,7 +6,7 @@ use Rattle.txc_node.specs.declared.entry.Entry.{Entry}
 use Rattle.txc_app.specs.Claims.{IsTrueIn}
 use Rattle.txc_functions.specs.Program.{program, call_of}
 
--- the body at the id 9 is not there, from the first stamp to the newest, and still
+-- no row has the id 9, from the first stamp to the newest, and still
 abbrev pub absent : Entry
 absent = record {
   key = call_of 0 (9 ∷ []);
@@ -28,7 +28,7 @@ too_soon = record {
 abbrev pub in_time : Entry
 in_time = record too_soon { reach = record { lo = 1; known = 4; still = false } }
 
--- which entries are true
+-- the true ones among the entries
 pub record WorkedEntries : Type 0 where
   pub absent : IsTrueIn program worked absent
   pub too_soon : ¬ (IsTrueIn program worked too_soon)

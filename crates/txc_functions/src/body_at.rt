@@ -7,7 +7,7 @@ use txc_definition::Definition;
 use txc_rows::Query;
 use txc_tags::Table;
 
-/// The table that the program's functions ask.
+/// Returns the table that the program's functions read.
 pub(crate) fn table() -> Table
     ensures { result ≡ TABLE }
 {
@@ -17,7 +17,7 @@ pub(crate) fn table() -> Table
     table
 }
 
-/// Appends the body of the answer's first row, where there is one.
+/// Appends the body of the answer's first row, if there is one. Fails only if memory cannot be allocated.
 pub(crate) fn append_body(bytes: &mut Vec<u8>, answer: &Answer) -> Result<(), AllocError>
     ensures { OnOk result (bytes.new.items ≡ bytes.old.items ++ body_of (rows_in answer.now)) }
 {

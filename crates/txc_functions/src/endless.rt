@@ -1,4 +1,4 @@
-//! Functions that never give a value.
+//! Functions that never return a value.
 use crate::body_at::table;
 use std::alloc::{AllocError, Global};
 use txc_app::{Answer, Ask};
@@ -44,7 +44,7 @@ impl Definition for Itself {
     }
 }
 
-/// Function 5: asks for the row of an id again and again.
+/// Function 5: requests the row of an id again and again.
 #[derive(Drop)]
 pub struct Again;
 

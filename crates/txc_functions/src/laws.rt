@@ -1,15 +1,15 @@
-//! Laws over the definition of the program alone. None has anything to run: each one's contract is the law.
+//! Lemmas about the definition of the program. They have no code: each contract is a law.
 ghost use Rattle.txc_functions.specs.Worked.{WorkedCalls, WorkedRefusals};
 ghost use Rattle.txc_functions.specs.WorkedEntries.{WorkedEntries};
 
-/// What calls of the program's functions give in the states of a history that was worked by hand, and
-/// what the longest value is.
+/// The values of calls of the program's functions in the states of a history worked by hand, and the longest
+/// value.
 pub fn worked_calls()
     ensures calls { WorkedCalls }
     ensures refusals { WorkedRefusals }
 {}
 
-/// Which entries of those functions are true in that history.
+/// The true entries of these functions in that history, and some false ones.
 pub fn worked_entries()
     ensures { WorkedEntries }
 {}

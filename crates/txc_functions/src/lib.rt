@@ -1,8 +1,8 @@
-//! The functions of the program, as objects that hold a permit while they run.
+//! The functions of the program, as objects with a permit while they run.
 //!
-//! What a function asks and gives is its [`Definition`], which has no state. A [`Function`] is the object of
-//! one: it takes a permit of its pool as an activation begins, keeps the arguments and the answers, and gives
-//! all back as the activation ends. [`registries`] has an object of each.
+//! A [`Definition`] specifies the requests and the value of a function, and has no state. A [`Function`] is its
+//! object: it takes a permit of its pool when an activation begins, keeps the arguments and the answers, and
+//! returns all when the activation ends. [`registries`] makes registries with an object of each.
 #![tactic(auto)]
 
 mod any_function;

@@ -22,7 +22,7 @@ use txc_registry::{Cacheable, Registry, enlist};
 /// An object of one of the functions.
 pub type Object = Function<AnyFunction>;
 
-// One object more, which takes its permits of the pool.
+// Makes one more object, which takes its permits from the pool.
 fn add(
     alloc: Global,
     pool: &mut PermitPool,
@@ -45,7 +45,8 @@ fn add(
     enlist::<Program, Object>(objects, object)
 }
 
-/// An idle object of each function, which takes its permits of the pool.
+/// Makes an idle object of each function, which takes its permits from the pool. Fails only if memory cannot be
+/// allocated.
 pub fn object_of_each(alloc: Global, pool: &mut PermitPool) -> Result<Vec<Object>, AllocError>
     ensures all { IfOk result (λ objects.
         map ⟦<Object as Cacheable>⟧.number objects.items ≡ ALL_NUMBERS) }
@@ -72,7 +73,8 @@ pub fn object_of_each(alloc: Global, pool: &mut PermitPool) -> Result<Vec<Object
     Ok(objects)
 }
 
-/// A registry with an object of each function, which takes its permits of the pool.
+/// Makes a registry with an object of each function, which takes its permits from the pool. Fails only if
+/// memory cannot be allocated.
 pub fn registry(
     alloc: Global,
     pool: &mut PermitPool,
@@ -88,7 +90,8 @@ pub fn registry(
     }
 }
 
-/// So many registries, whose functions share the permits of the pool.
+/// Makes `count` registries, whose functions share the permits of the pool. Fails only if memory cannot be
+/// allocated.
 pub fn registries(
     alloc: Global,
     pool: &mut PermitPool,

@@ -1,4 +1,4 @@
--- What a keeper did with the nodes of a site.
+-- The effect of a keeper's step on the nodes of a site.
 use Rattle.std.specs.Prelude.{◌≡◌, ℕ, List, [], ◌∷◌, Option, Some, None, Ok, Err, IfErr, IfOk, Result}
 use Rattle.txc_stream.specs.Names.{Name}
 use Rattle.txc_node.specs.declared.op.Op.TheVariants.{Sweep, Trim}
@@ -15,17 +15,17 @@ use Rattle.txc_keeper.specs.Stations.{StationValue, HasNotRefused, HasBeenRefuse
 use Rattle.txc_keeper.specs.declared.keeper.KeptNode.{KeptNode}
 use Rattle.txc_keeper.specs.declared.keeper.TheConstants.{MAX_TAKEN}
 
--- how often the node has refused, once its taking of events ended so
+-- the number of the node's errors, after its taking of events ended so
 abbrev pub refusals_after : ℕ → Ended → ℕ
 refusals_after refusals (Refused error) = counted_again refusals
 refusals_after refusals ended = refusals
 
--- the node took so many events for the station's pass, at most so many, and ended so; a refusal is counted
+-- the node took `taken` events, at most `most`, for the station's pass, and ended so; an error is counted
 pub record HasTakenEvents (row : Name) (histories : ℕ → Name) (most : ℕ) (old : StationValue) (taken : ℕ) (ended : Ended) (new : StationValue) : Type 0 where
   pub took : HasTakenMany row histories most old.pass taken ended new.pass
   pub refusals : new.refusals ≡ refusals_after old.refusals ended
 
--- the node was swept, and dropped so many entries; or refused the sweep; without a horizon it was not swept
+-- the node was swept and dropped this many entries, or failed; without a horizon it was not swept
 abbrev pub HasSwept : (ℕ → Name) → StationValue → Option ℕ → Option (Result ℕ NodeError) → StationValue → Type 0
 HasSwept histories old (Some horizon) (Some result) new =
     IfOk result (λ count. HasMade old.pass new.pass (Sweep horizon) (Swept count) × HasNotRefused old new)
@@ -33,8 +33,8 @@ HasSwept histories old (Some horizon) (Some result) new =
 HasSwept histories old None None new = new ≡ old
 HasSwept histories old horizon swept new = ⊥
 
--- the node was trimmed to its budget, and dropped so many entries; or refused the trim; without a budget there was no
--- trim
+-- the node was trimmed to its budget and dropped this many entries, or failed; without a budget it was not
+-- trimmed
 abbrev pub HasTrimmed : (ℕ → Name) → StationValue → Option ℕ → Option (Result ℕ NodeError) → StationValue → Type 0
 HasTrimmed histories old (Some most) (Some result) new =
     IfOk result (λ count. HasMade old.pass new.pass (Trim most) (Trimmed count) × HasNotRefused old new)
@@ -42,8 +42,8 @@ HasTrimmed histories old (Some most) (Some result) new =
 HasTrimmed histories old None None new = new ≡ old
 HasTrimmed histories old budget trimmed new = ⊥
 
--- what was done with a node at its station, whose pass is the same one, and the room that is left after what the pass
--- has seen
+-- the effect on a node at its station, which keeps its pass, and the remaining room in the history as its pass
+-- has seen it
 pub record HasKeptNode (row : Name) (histories : ℕ → Name) (horizon : Option ℕ) (old : StationValue) (kept : KeptNode) (new : StationValue) : Type 0 where
   pub between : StationValue
   pub after : StationValue

@@ -1,4 +1,4 @@
--- What a keeper did in one keep.
+-- The effect of one keep.
 use Rattle.std.specs.Prelude.{◌≡◌, ◌⊎◌, ℕ, ◌+◌, List, IfErr, IfOk, Result, Some, Vec, length}
 use Rattle.std.specs.declared.alloc.AllocError.{AllocError}
 use Rattle.std.specs.declared.alloc.Global.{Global}
@@ -18,7 +18,7 @@ use Rattle.txc_keeper.specs.declared.keeper.KeptNode.{KeptNode}
 use Rattle.txc_keeper.specs.Keeping.{HaveKept, ok_of}
 use Rattle.txc_keeper.specs.Stations.{StationValue}
 
--- what a keep that was not refused tells, whatever names the site's histories
+-- the report of a keep that did not fail, without the names of the site's histories
 pub record KeepTold : Type 0 where
   pub seen : FrontValue
   pub events_left : ℕ

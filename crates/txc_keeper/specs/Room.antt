@@ -3,7 +3,7 @@ use Rattle.std.specs.Prelude.{◌≡◌, ℕ, ◌+◌, List, length, Option, Som
 use Rattle.txc_stream.specs.Names.{Name, stored, unstored}
 use Rattle.txc_node.specs.declared.record.Record.{Record}
 
--- so much room is left after these records, where they are stored
+-- the remaining room after these records, if they are stored
 abbrev pub IsRoomLeft : Name → List Record → Option ℕ → Type 0
 IsRoomLeft (stored cells) records (Some left) = left + length records ≡ length cells
 IsRoomLeft (stored cells) records None = ⊥

@@ -7,7 +7,7 @@ use Rattle.txc_shared.specs.Passes.{PassValue, IsPassLeft}
 use Rattle.txc_shared.specs.Refusals.{IsRefusedThrough, NodeMayRefuse}
 use Rattle.txc_ledger.specs.Counted.{counted_again}
 
--- the pass, how often the node has refused what it was asked through it, and the most bytes of the node's values
+-- the pass, the number of the node's errors at requests through it, and the most bytes of the node's values
 -- after a trim, if there is a budget
 pub record StationValue : Type 0 where
   pub pass : PassValue
@@ -20,11 +20,11 @@ pub record IsSamePass (old new : StationValue) : Type 0 where
   pub pass : new.pass.pass ≡ old.pass.pass
   pub budget : new.budget ≡ old.budget
 
--- the node was asked, and did not refuse
+-- a request of the node succeeded
 abbrev pub HasNotRefused : StationValue → StationValue → Type 0
 HasNotRefused old new = new.refusals ≡ old.refusals
 
--- the node was asked, and refused as some node of its history refuses such a step, which leaves the pass so
+-- a request of the node failed as such a step may fail in a node of its history, which leaves the pass so
 pub record HasBeenRefused (histories : ℕ → Name) (refused : NodeValue → NodeError → Type 0) (old : StationValue) (error : NodeError)
     (new : StationValue) : Type 0 where
   pub once_more : new.refusals ≡ counted_again old.refusals

@@ -1,4 +1,4 @@
--- What the keeper of a site that keeps itself did.
+-- The effect of the keeper of a site that keeps itself.
 use Rattle.std.specs.Prelude.{◌≡◌, ◌⊎◌, ℕ, ◌+◌, ◌-◌, ◌^◌, ◌≤◌, ◌<◌, min, List, [], ◌∷◌, All, IfErr, IfOk, None, Option, Result, Some, map}
 use Rattle.txc_db.specs.declared.error.DbError.{DbError}
 use Rattle.txc_shared.specs.declared.settings.NodeSettings.{NodeSettings}
@@ -23,29 +23,30 @@ pub record IsNewOwnKeeper (all : List NodeSettings) (budget : Option ℕ) (own :
   pub budgets : All (λ s. s.budget ≡ budget) own.stations
   pub tended : own.tended ≡ record { keeps = 0; refused = None }
 
--- what a keeper did, with one keep more
+-- the totals of a keeper after one keep more
 abbrev pub tended_after : Tended → Option DbError → Tended
 tended_after t None = record t { keeps = counted_again t.keeps }
 tended_after t (Some error) = record { keeps = counted_again t.keeps; refused = Some error }
 
--- it kept once more, or was refused that; and tells it
+-- one keep more, with its report; or a keep that failed
 abbrev pub HasTended : Name → (ℕ → Name) → ℕ → ℕ → OwnKeeperValue → OwnKeeperValue → Type 0
 HasTended row histories now age old new =
     ((told : KeepTold) × IsKeep row histories now age old.stations told new.stations × (new.tended ≡ tended_after old.tended None))
     ⊎ ((error : DbError) × IsNoKeep row old.stations error new.stations × (new.tended ≡ tended_after old.tended (Some error)))
 
--- from which moment on a keep is due, after one at this moment: so long after it, as far as moments go
+-- the moment from which a keep is due after one at `last`: `every` later, at most the greatest moment
 abbrev pub due_after : ℕ → ℕ → ℕ
 due_after every last = min (last + every) (2 ^ 64 - 1)
 
--- One look at the clock, which showed this moment. Where a keep was due, it kept, and the next keep is due so long after. Else
--- nothing has changed.
+-- One look at the clock, which showed this moment. If a keep was due, the keeper kept, and the next one is due
+-- after the interval. Otherwise nothing has changed.
 abbrev pub HasLooked : Name → (ℕ → Name) → Keeping → ℕ → ℕ → OwnKeeperValue → OwnKeeperValue → ℕ → Type 0
 HasLooked row histories keeping due now old new next =
     ((due ≤ now) × HasTended row histories now keeping.age old new × (next ≡ due_after keeping.every now))
     ⊎ ((now < due) × (new ≡ old) × (next ≡ due))
 
--- from which moment on a keep is due, after keeps at these moments, the latest first; the first keep is due at once
+-- the moment from which a keep is due, after keeps at these moments, the latest first; the first keep is due at
+-- once
 abbrev pub due_at : ℕ → List ℕ → ℕ
 due_at every [] = 0
 due_at every (last ∷ earlier) = due_after every last
@@ -57,7 +58,7 @@ HaveTended row histories tells keeping first (now ∷ earlier) last = (before : 
     × HaveTended row histories tells keeping first earlier before × tells now × (due_at keeping.every earlier ≤ now)
     × HasTended row histories now keeping.age before last
 
--- it began as a new keeper of these nodes, and did nothing but keep
+-- the keeper began as a new one of these nodes, and did nothing but keep
 pub record HasTendedSince (row : Name) (histories : ℕ → Name) (nodes : List NodeSettings) (budget : Option ℕ) (tells : ℕ → Type 0) (keeping : Keeping) (own : OwnKeeperValue) : Type 0 where
   pub first : OwnKeeperValue
   pub moments : List ℕ
@@ -71,8 +72,8 @@ pub record IsTendedBy (row : Name) (nodes : List NodeSettings) (budget : Option 
   pub since : HasTendedSince row histories nodes budget tells keeping own
   pub told : tended ≡ own.tended
 
--- The site's own keeper: none where the plan has none. Else it did this, or there was none, since a node gave it no
--- pass, or for want of memory.
+-- The site's own keeper: none if the plan has none. Otherwise it did this; or there was none, because a node
+-- gave it no pass, or there was no memory.
 abbrev pub IsTendedAs : Option Keeping → List NodeSettings → Option ℕ → (ℕ → Type 0) → Name → Option (Result Tended SiteError) → Type 0
 IsTendedAs None nodes budget tells row came = came ≡ None
 IsTendedAs (Some keeping) nodes budget tells row came = (result : Result Tended SiteError) × (came ≡ Some result)

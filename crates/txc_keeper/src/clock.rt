@@ -1,29 +1,29 @@
-//! The clocks at which a site keeps itself.
+//! The clocks of a site's maintenance.
 use std::sync::atomic::{AtomicBool, AtomicU64, Ordering};
 use std::time::Duration;
 use std::{thread, time};
 
-/// A clock, at which a site keeps itself.
+/// A clock for the maintenance of a site.
 pub trait Clock {
     ghost use Rattle.std.specs.Prelude.{ℕ};
 
-    // Which moments the clock may tell.
+    // The times that the clock may show.
     ghost tells: { Self → ℕ → Type 0 };
 
-    /// How many milliseconds have gone by, since a moment of the clock's own.
+    /// Returns the milliseconds since a time of the clock's own choice.
     fn now(&self) -> u64
         ensures { tells self.now result };
 }
 
-/// The system's clock. It sleeps for a millisecond before it is read, so that who looks again and again does
-/// little else. A clock that can't be read stands at 0.
+/// The system's clock. It sleeps for a millisecond before it is read, so that a thread that reads it in a loop
+/// does little else. A clock that cannot be read shows 0.
 #[derive(Drop)]
 pub struct SystemClock<'a, R: time::Clock> {
     rt: &'a R,
 }
 
 impl<'a, R: time::Clock> SystemClock<'a, R> {
-    /// The clock of a handle to the system.
+    /// Makes the clock of a handle to the system.
     pub fn new(rt: &'a R) -> Self {
         SystemClock { rt }
     }
@@ -41,14 +41,14 @@ impl<R: time::Clock> Clock for SystemClock<'_, R> {
     }
 }
 
-/// A clock that counts how often it was looked at.
+/// A clock that counts how many times it was read.
 #[derive(Drop)]
 pub struct CountedClock {
     looks: AtomicU64,
 }
 
 impl CountedClock {
-    /// A clock that nobody has looked at.
+    /// Makes a clock that was not read yet.
     pub fn new() -> CountedClock {
         CountedClock {
             looks: AtomicU64::new(0),
@@ -64,51 +64,51 @@ impl Clock for CountedClock {
     }
 }
 
-/// What the clock of a site showed last, for all of its threads.
+/// The last time that the clock of a site showed, for all of its threads.
 #[derive(Drop)]
 pub struct Moment {
     now: AtomicU64,
 }
 
 impl Moment {
-    /// No clock was looked at.
+    /// Makes a value before any reading.
     pub fn new() -> Moment {
         Moment {
             now: AtomicU64::new(0),
         }
     }
 
-    /// Notes what the clock showed.
+    /// Stores the time that the clock showed.
     pub fn set(&self, now: u64) {
         self.now.store(now, Ordering::SeqCst);
     }
 
-    /// What the clock showed last, in milliseconds; 0 where none was looked at.
+    /// Returns the last time that the clock showed, in milliseconds, or 0 if it was not read.
     pub fn get(&self) -> u64 {
         self.now.load(Ordering::SeqCst)
     }
 }
 
-/// Whether the visitors of a site have ended, for its own keeper.
+/// A flag for the site's maintenance: the worker threads have ended.
 #[derive(Drop)]
 pub struct Signal {
     given: AtomicBool,
 }
 
 impl Signal {
-    /// They have not ended.
+    /// Makes a flag that is not set.
     pub fn new() -> Signal {
         Signal {
             given: AtomicBool::new(false),
         }
     }
 
-    /// Says that they have ended.
+    /// Sets the flag.
     pub fn give(&self) {
         self.given.store(true, Ordering::SeqCst);
     }
 
-    /// Whether that was said.
+    /// Returns `true` if the flag is set.
     pub fn is_given(&self) -> bool {
         self.given.load(Ordering::SeqCst)
     }

@@ -1,26 +1,26 @@
-//! Why a site, or a part of it, is not made.
+//! Errors of making a site or a part of it.
 use std::alloc::{AllocError, AllocFailed};
 use thiserror::Error;
 use txc_db::DbError;
 use txc_shared::NodeError;
 
-/// Why a site, a client or a keeper of it was not made. The passes that were drawn by then stay counted at the
+/// Errors of making a site, a client or a keeper of it. Passes that were made by then stay counted at the
 /// nodes.
 #[derive(Clone, Copy, Debug, PartialEq, Eq, Error)]
 pub enum SiteError {
-    /// A number of the plan is none, or more than there may be.
-    #[error("a number of the plan is out of its limits")]
+    /// A number of the plan is 0 or beyond its limit.
+    #[error("a number of the plan is 0 or above its limit")]
     Plan,
     /// Two functions have this number.
     #[error("two functions have the number {0}")]
     Twice(u8),
-    /// The database was not made.
+    /// The database cannot be made.
     #[error("{0}")]
     Database(DbError),
-    /// A node gave no pass.
+    /// A pass at a node cannot be made.
     #[error("{0}")]
     Node(NodeError),
-    /// A growth was refused.
+    /// Memory cannot be allocated.
     #[error("out of memory")]
     Memory,
 }

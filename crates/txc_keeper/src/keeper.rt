@@ -1,4 +1,4 @@
-//! The keeping of a site.
+//! Maintenance of a site.
 ghost use Rattle.std.specs.Prelude.{◌≡◌, ◌≤◌, ◌⊎◌, [], All, IfErr, IfOk, Some, map, vec_capacity, vec_len};
 ghost use Rattle.txc_cushion.specs.Cushion.{retired};
 ghost use Rattle.txc_cushion.specs.Shared.{CushionMayAnswer};
@@ -22,52 +22,55 @@ use txc_ledger::{Horizon, Ledger};
 use txc_shared::{Ended, MAX_TOGETHER, NodeError, SharedNode};
 use txc_stamp::Stamp;
 
-/// Maximum number of locked calls in which a node takes events during one call of [`Keeper::keep`].
+/// The most locked calls in which a node takes events during one call of [`Keeper::keep`].
 const MOST_ROUNDS: usize = 64;
 
 /// The most events that a node takes in one call of [`Keeper::keep`].
 pub const MAX_TAKEN: usize = MOST_ROUNDS * MAX_TOGETHER;
 
-/// What was done with a node.
+/// Effect of maintenance on a node.
 #[derive(Drop)]
 pub struct KeptNode {
-    /// How many events it took.
+    /// The number of events that it took.
     pub taken: usize,
-    /// How the taking ended.
+    /// The reason for which it stopped.
     pub ended: Ended,
-    /// How many entries were swept. None where there was no horizon.
+    /// The number of swept entries, or the error. `None` if there was no horizon.
     pub swept: Option<Result<usize, NodeError>>,
-    /// How many entries the trim dropped. None if there is no budget of bytes.
+    /// The number of entries that the trim dropped, or the error. `None` if there is no budget of bytes.
     pub trimmed: Option<Result<usize, NodeError>>,
-    /// How many records there is room for after those that the keeper has seen, where they are stored.
+    /// The number of records that there is room for after those that the keeper has seen. `None` if records are
+    /// not stored.
     pub records_left: Option<usize>,
 }
 
-/// What a keeper did, and what room is left.
+/// Result of maintenance, and the room that is left.
 #[derive(Drop)]
 pub struct Kept<J: Naming> {
-    /// The history, as it was seen once the present was pinned.
+    /// The history, as seen once the present was pinned.
     pub seen: HistoryFront,
-    /// How many events there is room for after those.
+    /// The number of events that there is room for after those.
     pub events_left: usize,
-    /// The stamp of the pin of the present.
+    /// The stamp of the pin of the present, or the error.
     pub pinned: Result<Stamp, DbError>,
-    /// The stamps of the pins that were retired, and whose holds were taken away.
+    /// The stamps of the pins that were retired and whose holds were removed, or the error.
     pub retired: Result<Vec<Stamp>, AllocError>,
-    /// The horizon that the vacuum left.
+    /// The horizon after the vacuum, or the error.
     pub horizon: Result<Horizon<J>, DbError>,
-    /// What was done with each node, in order.
+    /// The effect on each node, in order.
     pub nodes: Vec<KeptNode>,
 }
 
-/// Who pins the present, lets the nodes take events, and tidies. One of a site is enough.
+/// The maintenance of a site: it pins the present, lets the nodes take events, and drops what no transaction
+/// can read. One for a site is enough.
 #[derive(Drop)]
 pub struct Keeper<'a, A: App, J: Naming> {
     ledger: &'a Ledger<J>,
     stations: Vec<Station<'a, A, J>>,
 }
 
-/// Lets the node take up to [`MAX_TAKEN`] events, in several locked calls, so that other threads get the lock in between.
+/// Lets the node take up to [`MAX_TAKEN`] events, in several locked calls, between which other threads can
+/// acquire the lock.
 #[tactic(auto, using(crate::proofs::NodesKept::same_then))]
 fn advance<A: App, J: Naming>(
     rt: &impl Wait,
@@ -88,7 +91,7 @@ fn advance<A: App, J: Naming>(
     (taken, Ended::Paused)
 }
 
-/// Sweeps the node, where there is a horizon.
+/// Sweeps the node, if there is a horizon.
 fn sweep<A: App, J: Naming>(
     rt: &impl Wait,
     alloc: Global,
@@ -119,7 +122,7 @@ fn trim<A: App, J: Naming>(
     }
 }
 
-/// Each node with a new pass through it.
+/// Returns each node with a new pass at it.
 #[tactic(auto, using(crate::proofs::NoPass::no_new_pass))]
 fn stations<'a, A: App, J: Naming>(
     rt: &impl Wait,
@@ -139,7 +142,7 @@ fn stations<'a, A: App, J: Naming>(
     Ok(stations)
 }
 
-/// Keeps the node of a station.
+/// Maintains the node of a station.
 #[tactic(auto, using(crate::proofs::NodesKept::same_then, crate::proofs::NodesKept::trimmed_at))]
 fn keep_node<'a, A: App, J: Naming>(
     rt: &impl Wait,
@@ -163,8 +166,8 @@ fn keep_node<'a, A: App, J: Naming>(
     (kept, station)
 }
 
-/// Pins the present, and gives the pin to the pincushion, with no user. Where that does not take it, its hold
-/// is taken away. Where there is no pin, a hold shows the history.
+/// Pins the present, and adds the pin to the pincushion, without a user. If the pincushion does not add it, its
+/// hold is removed. If there is no pin, a hold shows the history.
 fn pin<J: Naming>(
     rt: &impl Wait,
     alloc: Global,
@@ -197,7 +200,8 @@ fn pin<J: Naming>(
     Ok((front, Ok(stamp)))
 }
 
-/// Retires the pins that no transaction may use and that are too old, and takes their holds away.
+/// Retires the pins that no transaction uses and that are more than `age` before `now`, both in milliseconds,
+/// and removes their holds. Returns their stamps. Fails only if memory cannot be allocated.
 pub fn retire<J: Naming>(
     rt: &impl Wait,
     alloc: Global,
@@ -215,7 +219,7 @@ pub fn retire<J: Naming>(
     Ok(pins.stamps())
 }
 
-/// Keeps each node. There is room for what is done with them.
+/// Maintains each node. The lists have room for the results.
 fn keep_all<'a, A: App, J: Naming>(
     rt: &impl Wait,
     alloc: Global,
@@ -238,7 +242,7 @@ fn keep_all<'a, A: App, J: Naming>(
     (nodes, left)
 }
 
-/// Keeps the nodes of these stations, and their database.
+/// Maintains the nodes of these stations, and their database.
 fn keep_stations<'a, A: App, J: Naming>(
     rt: &impl Wait,
     alloc: Global,
@@ -286,8 +290,9 @@ impl<'a, A: App, J: Naming> Model for Keeper<'a, A, J> {
 }
 
 impl<'a, A: App, J: Naming> Keeper<'a, A, J> {
-    /// A keeper of the ledger and of these nodes, with a pass of its own through each. With a `budget`, each keep trims
-    /// the values of every node to that many bytes.
+    /// Makes a keeper of the ledger and of these nodes, with a new pass at each. With a `budget`, each
+    /// maintenance run trims the values of every node to that many bytes. Fails if a pass cannot be made, or
+    /// memory cannot be allocated.
     pub fn new(
         rt: &impl Wait,
         alloc: Global,
@@ -304,13 +309,13 @@ impl<'a, A: App, J: Naming> Keeper<'a, A, J> {
         Ok(Keeper { ledger, stations })
     }
 
-    /// Pins the present of the moment `now`, so that transactions find a fresh pin. Takes away the pins that
-    /// none may use and whose moment is more than `age` before, and the states below the least that is held.
-    /// Lets each node take the events, drop what it can't show any more, and then what exceeds its budget of bytes, if it
-    /// has one. Times are in milliseconds.
+    /// Runs the maintenance once. It pins the present at the wall-clock time `now`, so that transactions find a
+    /// fresh pin. It removes the pins without users whose time is more than `age` before, and the states below
+    /// the least held stamp. It lets each node take the events, drop the entries that it cannot serve any more,
+    /// and then those over its budget of bytes, if it has one. Times are in milliseconds.
     ///
-    /// What a part of it refuses stands in the result, and the others are done. An error comes before
-    /// anything was done but that a pin was refused.
+    /// The error of a part is in the result, and the other parts are still done. It fails as a whole only
+    /// before anything was done except a failed pin.
     pub fn keep(
         self,
         rt: &impl Wait,

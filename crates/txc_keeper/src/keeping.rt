@@ -1,4 +1,4 @@
-//! A site that keeps itself.
+//! A site with automatic maintenance.
 ghost use Rattle.std.specs.Prelude.{IfErr, IfOk};
 ghost use Rattle.txc_keeper.specs.Refusals.{IsKeeperRefused};
 ghost use Rattle.txc_keeper.specs.Tending.{HasLooked, HasTended, IsNewOwnKeeper, IsTendedBy};
@@ -15,24 +15,24 @@ use txc_db::{DbError, Naming};
 use txc_ledger::Ledger;
 use txc_shared::SharedNode;
 
-/// How a site keeps itself: each time `every` milliseconds have gone by, it does what
-/// [`Keeper::keep`](crate::Keeper::keep) does, where pins stay for `age`.
+/// Settings of automatic maintenance: after each `every` milliseconds, it does the work of
+/// [`Keeper::keep`](crate::Keeper::keep), with pins kept for `age` milliseconds.
 #[derive(Clone, Copy, Debug, PartialEq, Eq)]
 pub struct Keeping {
     pub every: u64,
     pub age: u64,
 }
 
-/// What the keeper of a site that keeps itself did.
+/// Result of automatic maintenance.
 #[derive(Clone, Copy, Debug, PartialEq, Eq)]
 pub struct Tended {
-    /// How often it kept. The number begins anew after 2^64.
+    /// The number of maintenance runs. It wraps after 2^64.
     pub keeps: u64,
-    /// Why the last keep that did nothing was refused; none where each did something.
+    /// The error of the last run that did nothing, or `None` if each did something.
     pub refused: Option<DbError>,
 }
 
-/// A keeper with what it did, which only [`OwnKeeper::keep`] changes.
+/// A keeper with its counts, which only [`OwnKeeper::keep`] changes.
 #[derive(Drop)]
 struct OwnKeeper<'a, A: App, J: Naming> {
     keeper: Keeper<'a, A, J>,
@@ -67,7 +67,7 @@ impl<'a, A: App, J: Naming> OwnKeeper<'a, A, J> {
         })
     }
 
-    /// Keeps the site, and counts that.
+    /// Runs the maintenance once, and counts the run.
     fn keep(self, rt: &impl Wait, alloc: Global, now: u64, age: u64) -> Self
         ensures { HasTended J.database_history J.node_histories now age self.entry result }
     {
@@ -89,8 +89,8 @@ impl<'a, A: App, J: Naming> OwnKeeper<'a, A, J> {
         }
     }
 
-    /// Looks at the clock once, which shows `now`: keeps the site if a keep is due. Returns from which moment on the next
-    /// one is.
+    /// Reads the clock once, which shows `now`, and runs the maintenance if it is due. Returns the time from
+    /// which the next run is due.
     fn look(
         self,
         rt: &impl Wait,
@@ -110,8 +110,9 @@ impl<'a, A: App, J: Naming> OwnKeeper<'a, A, J> {
     }
 }
 
-/// Keeps the ledger and these nodes at this clock until the visitors have ended. With a `budget`, each keep trims the
-/// values of every node to that many bytes. The moment is what the clock showed last.
+/// Maintains the ledger and these nodes at this clock until `ended` is set. With a `budget`, each run trims the
+/// values of every node to that many bytes. `moment` gets the last time that the clock showed. Fails only
+/// before it begins: if a node gives no pass, or memory cannot be allocated.
 #[tactic(auto, using(crate::proofs::Tending::since_begun, crate::proofs::Tending::looked_on, crate::proofs::Tending::told_so))]
 pub fn keep_until_ended<A: App, J: Naming, C: Clock, R: Wait>(
     rt: &R,

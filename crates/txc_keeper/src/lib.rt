@@ -1,8 +1,8 @@
-//! Who keeps a site.
+//! The maintenance of a site.
 //!
-//! A [`Keeper`] pins the present, lets the nodes take events and tidies, and tells how much room is left. A site that
-//! keeps itself does so at a [`Clock`], as its [`Keeping`] says, until its visitors have ended
-//! ([`keep_until_ended`]).
+//! A [`Keeper`] pins the present, lets the nodes take events, drops what no transaction can read, and reports
+//! how much room is left. A site with automatic maintenance does so at a [`Clock`], with the settings of a
+//! [`Keeping`], until its worker threads have ended ([`keep_until_ended`]).
 #![tactic(auto)]
 
 mod clock;

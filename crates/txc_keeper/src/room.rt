@@ -1,4 +1,4 @@
-//! How much room is left in the histories.
+//! Room that is left in the histories.
 ghost use Rattle.std.specs.Prelude.{◌≡◌, ◌+◌, length};
 ghost use Rattle.txc_db.specs.Room.{events_room};
 ghost use Rattle.txc_keeper.specs.Room.{IsRoomLeft};
@@ -6,15 +6,15 @@ ghost use Rattle.txc_keeper.specs.Room.{IsRoomLeft};
 use txc_db::{HistoryFront, Naming};
 use txc_shared::NodePass;
 
-/// How many events there is room for after those that the front shows.
+/// Returns how many events there is room for after those that the front shows.
 pub fn events_left(front: &HistoryFront) -> usize
     ensures { result + length front.now.history ≡ events_room front.now.events }
 {
     front.room() - front.len()
 }
 
-/// How many records there is room for after those that the pass has seen, where they are stored. A history that
-/// is not stored has no end.
+/// Returns how many records there is room for after those that the pass has seen, or `None` if they are not
+/// stored: such a history has no end.
 pub fn records_left<J: Naming>(pass: &NodePass<J>) -> Option<usize>
     ensures { IsRoomLeft (J.node_histories pass.now.settings.number) pass.now.records result }
 {

@@ -1,4 +1,4 @@
-//! The nodes of a site, as a keeper reaches them.
+//! The nodes of a site, for its keeper.
 ghost use Rattle.std.specs.Prelude.{◌≡◌, [], IfErr, IfOk};
 ghost use Rattle.txc_node.specs.declared.op.Op.TheVariants.{Sweep, Trim};
 ghost use Rattle.txc_node.specs.declared.reply.Reply.TheVariants.{Swept, Trimmed};
@@ -15,8 +15,8 @@ use txc_db::Naming;
 use txc_ledger::Horizon;
 use txc_shared::{Ended, MAX_TOGETHER, NodeError, NodePass, SharedNode};
 
-/// A node, a pass through it, and the budget of a trim: the most bytes of the node's values, if there is a limit. It
-/// counts how often the node refused.
+/// A node, a pass at it, and the budget of a trim: the most bytes of the node's values, if there is a limit. It
+/// counts the errors of the node.
 #[derive(Drop)]
 pub(crate) struct Station<'a, A: App, J: Naming> {
     node: &'a SharedNode<A, J>,
@@ -34,7 +34,7 @@ impl<'a, A: App, J: Naming> Model for Station<'a, A, J> {
 }
 
 impl<'a, A: App, J: Naming> Station<'a, A, J> {
-    /// A new pass through the node.
+    /// Makes a new pass at the node. Fails as a pass does.
     pub(crate) fn new(
         rt: &impl Wait,
         node: &'a SharedNode<A, J>,
@@ -54,7 +54,7 @@ impl<'a, A: App, J: Naming> Station<'a, A, J> {
         })
     }
 
-    /// The pass.
+    /// Returns the pass.
     pub(crate) fn pass(&self) -> &NodePass<J>
         ensures { result.now ≡ self.now.pass }
     {
@@ -81,7 +81,7 @@ impl<'a, A: App, J: Naming> Station<'a, A, J> {
         (taken, ended)
     }
 
-    /// Drops what the node can't show any more from the horizon on.
+    /// Drops the entries that the node cannot serve from the horizon on.
     #[tactic(auto, using(crate::proofs::NodesKept::same_settings, crate::proofs::NodesKept::same_pass))]
     pub(crate) fn sweep(
         &mut self,
@@ -104,7 +104,8 @@ impl<'a, A: App, J: Naming> Station<'a, A, J> {
         }
     }
 
-    /// Keeps the longest prefix of the node's entries whose values have at most `most` bytes in all.
+    /// Keeps the longest prefix of the node's entries whose values have at most `most` bytes in all. Returns
+    /// how many it dropped.
     #[tactic(auto, using(crate::proofs::NodesKept::same_settings, crate::proofs::NodesKept::same_pass))]
     pub(crate) fn trim(
         &mut self,

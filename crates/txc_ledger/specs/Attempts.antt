@@ -1,4 +1,4 @@
--- Only private functions need this file: what one run of a change gave.
+-- Only private functions need this file: the result of one run of a change.
 use Rattle.std.specs.Prelude.{◌≡◌, ℕ}
 use Rattle.txc_stream.specs.Names.{Name}
 use Rattle.txc_app.specs.Eval.{Next}
@@ -18,14 +18,14 @@ IsOfRun (writes.Conflicts conflicts) = ⊥
 IsOfRun writes.Memory = ⊥
 IsOfRun error = Unit {0}
 
--- it was committed, or is a conflict, or was refused for another reason
+-- the change was committed, or conflicted, or failed for another reason
 abbrev pub IsAttempted : {T : Type 0} → Next → Name → (RwValue → T → Type 0) → (RunError → Type 0) → Attempt T → Type 0
 IsAttempted next row makes refuses (attempts.Done output committed) = IsWritten next row makes output committed
 IsAttempted next row makes refuses (attempts.Conflict conflict) = IsRefusedCommit row makes (commits.Conflict conflict)
 IsAttempted next row makes refuses (attempts.Refused error) =
     IsOfRun error × ((tries : ℕ) → IsSiteWriteRefused row makes refuses tries error)
 
--- the committer began one update more; and where it was done, it committed once more, and else not at all
+-- the committer counts one update more, and one commit more if the change was committed
 abbrev pub CountsAttempt : {T : Type 0} → Attempt T → CommitterValue → CommitterValue → Type 0
 CountsAttempt (attempts.Done output committed) old new =
     new ≡ record { updates = counted_again old.updates; commits = counted_again old.commits }

@@ -4,7 +4,7 @@ use Rattle.txc_stream.specs.Names.{Name, stored, unstored}
 use Rattle.txc_ledger.specs.declared.node_history.NodeHistory.{NodeHistory}
 use Rattle.txc_ledger.specs.declared.node_history.NodeHistory.TheVariants.{Stored, Unstored}
 
--- what a history is called
+-- the name of a history
 abbrev pub history_name : NodeHistory → Name
 history_name (Stored row) = stored row
 history_name (Unstored pen) = unstored pen.number

@@ -1,4 +1,4 @@
--- What a change that was tried gave.
+-- The result of a change, with its tries.
 use Rattle.std.specs.Prelude.{◌≡◌, ◌⊎◌, ℕ, ◌+◌, ◌<◌, List, All, vec_len}
 use Rattle.txc_stream.specs.Names.{Name}
 use Rattle.txc_app.specs.Eval.{Next}
@@ -17,8 +17,8 @@ use Rattle.txc_rw.specs.Outcomes.{IsCommitted}
 use Rattle.txc_ledger.specs.declared.error.WriteError.{WriteError}
 use Rattle.txc_ledger.specs.declared.error.WriteError.TheVariants as writes
 
--- The change left a transaction of which it says this output, and that one was committed. What it was answered is
--- right at its base and where it was committed, and none of the events in between matches what it read.
+-- The change left a transaction with this output, and that transaction was committed. Its answers are right at
+-- its base and at the state to which it was committed, and none of the events in between matches what it read.
 pub record IsWritten {T : Type 0} (next : Next) (row : Name) (makes : RwValue → T → Type 0) (output : T)
     (committed : Committed) : Type 0 where
   pub core : RwValue
@@ -30,19 +30,19 @@ pub record IsWritten {T : Type 0} (next : Next) (row : Name) (makes : RwValue �
   pub apart : IsQuietIn committed.front.history core.base (tags_read core) core.changes committed.stamp
       ⊎ IsEventIn committed.front.history core.base (tags_read core) core.changes committed.stamp
 
--- the change left a transaction, which a database of the row refused to commit so
+-- the change left a transaction, and a database of the row failed to commit it with this error
 pub record IsRefusedCommit {T : Type 0} (row : Name) (makes : RwValue → T → Type 0) (error : CommitError) : Type 0 where
   pub core : RwValue
   pub output : T
   pub made : makes core output
   pub refused : MayRefuse row (λ d. IsSharedCommitRefused d core.base (tags_read core) core.changes) error
 
--- each of these conflicts refused a transaction that the change left
+-- each of these conflicts is that of a transaction that the change left
 abbrev pub AreConflicts : {T : Type 0} → Name → (RwValue → T → Type 0) → List (Answered ℕ) → Type 0
 AreConflicts row makes conflicts = All (λ conflict. IsRefusedCommit row makes (commits.Conflict conflict)) conflicts
 
--- there were as many conflicts as tries, or a transaction was not begun, the change was refused, or its commit
--- was for another reason than a conflict
+-- every try conflicted; or a transaction could not begin, the change failed, or its commit failed for a reason
+-- other than a conflict
 abbrev pub IsSiteWriteRefused : {T : Type 0} → Name → (RwValue → T → Type 0) → (RunError → Type 0) → ℕ → WriteError → Type 0
 IsSiteWriteRefused row makes refuses tries (writes.Conflicts conflicts) =
     (vec_len conflicts ≡ tries) × AreConflicts row makes conflicts.items
@@ -51,8 +51,8 @@ IsSiteWriteRefused row makes refuses tries (writes.Change cause) = refuses cause
 IsSiteWriteRefused row makes refuses tries (writes.Commit cause) = IsRefusedCommit row makes (commits.Database cause)
 IsSiteWriteRefused row makes refuses tries writes.Memory = Unit {0}
 
--- How often a change that was refused so was run: not at all where there was no memory for its conflicts. Where each
--- try was a conflict, it was run as often as there were tries; else once or more, but no more often than that.
+-- The number of runs of a change that failed so. It did not run if there was no memory for its conflicts. If
+-- each try conflicted, it ran as often as there were tries; otherwise at least once, and at most that often.
 abbrev pub IsRunSoOften : ℕ → WriteError → ℕ → ℕ → Type 0
 IsRunSoOften tries writes.Memory old new = new ≡ old
 IsRunSoOften tries (writes.Conflicts conflicts) old new = new ≡ counted_on tries old

@@ -9,24 +9,25 @@ use txc_db::Naming;
 use txc_definition::{Definition, Function};
 use txc_rw::RwTxn;
 
-/// The read-write transaction of a change. It sees no write of its own.
+/// The read-write transaction of a change. Its reads do not see its own changes.
 pub type ChangeTxn<'a, A, D, J> = RwTxn<'a, J, A, Function<D>>;
 
-/// A change: what is read and written in one read-write transaction. It is made anew after each conflict.
+/// A change: the reads and writes of one read-write transaction. It is made again after each conflict.
 pub trait Change<A: App, D: Definition> {
     ghost use Rattle.txc_rw.specs.Core.{RwValue};
     ghost use Rattle.txc_ledger.specs.declared.run_error.RunError.{RunError};
 
-    /// What the change gives.
+    /// The result of the change.
     type Output: Drop;
 
-    // What it says of the transaction that is to be committed: of its base, its answers and its changes.
+    // Its relation to the committed transaction: to the base, the results and the changes.
     ghost makes: { Self → RwValue → Self.Output → Type 0 };
 
-    // How it is refused.
+    // The errors with which it fails.
     ghost refuses: { Self → RunError → Type 0 };
 
-    /// Makes the calls, the queries and the changes in the transaction, which is new.
+    /// Makes the calls, the queries and the changes in the transaction, which is new. If it fails, the
+    /// transaction is aborted.
     fn make<J: Naming, R: Wait>(
         &self,
         rt: &R,

@@ -1,27 +1,27 @@
-//! Why changes are not written.
+//! Errors of writing changes.
 use crate::run_error::RunError;
 use std::fmt;
 use thiserror::Error;
 use txc_db::{Answered, DbError};
 use txc_stamp::Stamp;
 
-/// Why a change was not written. Nothing of it was committed, and the client is there for the next one.
+/// Errors of writing a change. Nothing of it was committed, and the client can continue.
 #[derive(Drop, Error)]
 pub enum WriteError {
-    /// Each of the tries was a conflict: the first event of each that matches what was read, in a front that
-    /// shows it.
-    #[error("there was a conflict at each try")]
+    /// Each of the tries ended with a conflict: for each the first event that matches what was read, with a
+    /// front that shows it.
+    #[error("the change conflicted at every try (tries: {})", .0.len())]
     Conflicts(Vec<Answered<Stamp>>),
-    /// A transaction was not begun.
+    /// A transaction cannot begin.
     #[error("{0}")]
     Begin(DbError),
-    /// The change was refused, and its transaction given up.
+    /// The change failed, and its transaction was aborted.
     #[error("{0}")]
     Change(RunError),
-    /// The database refused the commit, for another reason than a conflict.
+    /// The commit failed, for another reason than a conflict.
     #[error("{0}")]
     Commit(DbError),
-    /// There was no memory for the conflicts. The change was not run.
+    /// Memory for the conflicts cannot be allocated. The change was not run.
     #[error("out of memory")]
     Memory,
 }

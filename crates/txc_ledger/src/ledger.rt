@@ -1,4 +1,4 @@
-//! The database of a site and its pincushion, and what is done to them.
+//! The database of a site, its pincushion, and the operations on both.
 ghost use Rattle.std.specs.Prelude.{◌≡◌, ◌≤◌, ◌⊎◌, All, Any, IfErr, IfOk, length, map, [], ℕ};
 ghost use Rattle.txc_db.specs.Calls.{IsHoldRefused};
 ghost use Rattle.txc_db.specs.Shared.{IsDatabaseOf, MayRefuse};
@@ -22,8 +22,8 @@ use txc_db::{Database, DbCore, DbError, HistoryFront, Naming};
 use txc_registry::{Cacheable, Registry};
 use txc_shared::{NodeError, NodeSettings, SharedNode};
 
-/// The database and its pincushion. Only this module and those below it reach them: whoever has a ledger
-/// commits by a [`Committer`], who counts it, and pins, retires and vacuums by values that show it.
+/// The database and its pincushion. Only this module and those below it reach them. All others commit by a
+/// [`Committer`], which counts, and pin, retire and vacuum by linear values.
 #[derive(Drop)]
 pub struct Ledger<J: Naming> {
     database: Database<J>,
@@ -37,7 +37,7 @@ pub struct Committers<J: Naming> {
 }
 
 impl<J: Naming> Committers<J> {
-    /// A committer who has begun no update and committed none yet.
+    /// Makes a committer that has begun no update and committed none.
     pub fn committer(&self) -> Committer<J>
         ensures { result ≡ record { updates = 0; commits = 0 } }
     {
@@ -49,7 +49,8 @@ impl<J: Naming> Committers<J> {
     }
 }
 
-/// Who commits to a ledger. Contracts see how many updates it has begun, or was refused, and how many it has committed.
+/// The token to commit to a ledger. Contracts see how many updates it has begun or failed to begin, and how
+/// many it has committed.
 #[derive(Drop)]
 pub struct Committer<J: Naming> {
     updates: u64,
@@ -66,7 +67,7 @@ impl<J: Naming> Model for Committer<J> {
 }
 
 impl<J: Naming> Committer<J> {
-    /// How often it has committed.
+    /// Returns how many updates it has committed.
     pub fn commits(&self) -> u64
         ensures { result ≡ self.now.commits }
     {
@@ -75,7 +76,8 @@ impl<J: Naming> Committer<J> {
 }
 
 impl<J: Naming> Ledger<J> {
-    /// Puts the database, whose row is the named one, under its lock.
+    /// Puts the database, whose history is the named one, under its lock. Fails only if memory cannot be
+    /// allocated.
     pub fn new(alloc: Global, core: DbCore) -> Result<(Ledger<J>, Committers<J>), AllocError>
         requires { core.events ≡ J.database_history }
     {
@@ -84,7 +86,7 @@ impl<J: Naming> Ledger<J> {
         Ok((Ledger { database, cushion }, Committers { of: PhantomData }))
     }
 
-    /// The database without its lock, once no thread has it any more.
+    /// Returns the database without its lock, once no other thread has it.
     pub fn into_core(self) -> DbCore
         ensures { IsDatabaseOf J.database_history result }
     {
@@ -95,7 +97,8 @@ impl<J: Naming> Ledger<J> {
         database.into_core()
     }
 
-    /// The history, as a hold shows it that is given up at once.
+    /// Returns a front of the whole history, by a hold that is released at once. Fails if the database cannot
+    /// hold its newest stamp, or memory cannot be allocated.
     pub fn seen(&self, rt: &impl Wait, alloc: Global) -> Result<HistoryFront, DbError>
         ensures row { IfOk result (λ front. front.events ≡ J.database_history) }
         ensures refused { IfErr result (λ error. (error ≡ DbError.Memory)
@@ -107,7 +110,8 @@ impl<J: Naming> Ledger<J> {
         Ok(front?)
     }
 
-    /// A node of the history, which will take the database's events.
+    /// Makes a node with that history, which will take the database's events. Fails only if memory cannot be
+    /// allocated.
     pub fn node<A: App>(
         &self,
         rt: &impl Wait,
@@ -131,7 +135,7 @@ impl<J: Naming> Ledger<J> {
         }
     }
 
-    /// A client that reads, with a pass of its own through each node.
+    /// Makes a client that reads, with a new pass at each node.
     pub fn reader<'a, A: App, C: Cacheable>(
         &'a self,
         rt: &impl Wait,

@@ -1,8 +1,8 @@
 //! The ledger of a site, and the changes that are written to it.
 //!
-//! A [`Ledger`] has a database and its pincushion, which nothing outside it reaches. A [`Change`] is written in one
-//! read-write transaction, and a [`Committer`] counts the commits. Who keeps pins, retires and vacuums by values
-//! that only the ledger makes and takes.
+//! A [`Ledger`] has a database and its pincushion, which no code outside reaches. A [`Change`] is written in
+//! one read-write transaction, and a [`Committer`] counts the commits. Maintenance pins, retires and vacuums by
+//! linear values that only the ledger makes and consumes.
 #![tactic(auto)]
 
 mod change;

@@ -1,24 +1,24 @@
-//! Why pages and changes are refused.
+//! Errors of pages and changes.
 use std::alloc::AllocError;
 use thiserror::Error;
 use txc_ports::TxnError;
 use txc_rows::RowError;
 use txc_tags::KeyError;
 
-/// Why a page or a change was refused: by its transaction, or by itself. Its transaction is given up.
+/// Errors of a page or a change: of its transaction, or its own. The transaction was aborted.
 #[derive(Clone, Copy, Debug, PartialEq, Eq, Error)]
 pub enum RunError {
-    /// The transaction refused a call, a query or a change, or was out of memory.
+    /// A call, a query or a change of the transaction failed, or it had no memory.
     #[error("{0}")]
     Txn(TxnError),
-    /// What it would put is no row.
+    /// A row that it would put cannot be made.
     #[error("{0}")]
     Row(RowError),
-    /// What it would call is no key.
+    /// A key that it would call cannot be made.
     #[error("{0}")]
     Key(KeyError),
-    /// It has a reason of its own, which its caller knows by this number.
-    #[error("refused for the reason {0}")]
+    /// The page or change itself failed, with this number, whose meaning its author defines.
+    #[error("the page or change failed with the number {0}")]
     Own(u32),
 }
 

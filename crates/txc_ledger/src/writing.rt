@@ -1,4 +1,4 @@
-//! The writing of changes.
+//! Writing changes.
 ghost use Rattle.std.specs.Prelude.{◌≡◌, ◌+◌, ◌≤◌, ◌<◌, IfErr, IfOk, OnErr, OnOk, vec_len};
 ghost use Rattle.txc_registry.specs.Objects.{AllIdle};
 ghost use Rattle.txc_ledger.specs.Attempts.{CountsAttempt, IsAttempted};
@@ -17,7 +17,7 @@ use txc_registry::Registry;
 use txc_rw::Committed;
 use txc_stamp::Stamp;
 
-/// What a change gave, with the commit of its transaction, and the conflicts of the runs before.
+/// Result of a change, with the commit of its transaction, and the conflicts of the runs before.
 #[derive(Drop)]
 pub struct Written<T> {
     pub output: T,
@@ -25,7 +25,7 @@ pub struct Written<T> {
     pub conflicts: Vec<Answered<Stamp>>,
 }
 
-/// What one run of a change gave.
+/// Result of one run of a change.
 pub(crate) enum Attempt<T> {
     Done(T, Committed),
     Conflict(Answered<Stamp>),
@@ -69,7 +69,7 @@ fn run_once<A: App, D: Definition, J: Naming, C: Change<A, D>, R: Wait>(
     }
 }
 
-/// Runs the change, and again after a conflict, as often as there are tries. Each run is an update of the committer.
+/// Runs the change, and again after a conflict, at most `tries` times. Each run is an update of the committer.
 pub fn write_change<A: App, D: Definition, J: Naming, C: Change<A, D>, R: Wait>(
     rt: &R,
     alloc: Global,

@@ -1,4 +1,4 @@
--- What a run does, by the kind of its script and its settings.
+-- The effect of a run, by the kind of its script and its settings.
 use Rattle.std.specs.Prelude.{◌≡◌, ◌⊎◌, ℕ, List, [], Option, Result, All, length, map}
 use Rattle.txc_settings.specs.declared.script.Script.{Script}
 use Rattle.txc_settings.specs.declared.script.Script.TheVariants as scripts
@@ -20,8 +20,8 @@ use Rattle.txc_batch.specs.Crews.{numbers_in}
 use Rattle.txc_modes.specs.Staffs.{IsStaff, StaffValue}
 use Rattle.txc_modes.specs.declared.running.TheConstants.{ACTORS}
 
--- a new world of these settings: nothing happened, its nodes are new, and there is an actor with nothing open for
--- each registry
+-- a new world of these settings: nothing happened, its nodes are new, and there is an actor with nothing open
+-- for each registry
 pub record IsNewWorldOf (settings : Settings) (staff : StaffValue) (w : WorldValue) : Type 0 where
   pub settings_are : w.told.settings ≡ world_settings settings
   pub history : w.told.history ≡ []
@@ -32,9 +32,9 @@ pub record IsNewWorldOf (settings : Settings) (staff : StaffValue) (w : WorldVal
   pub ports : AreNewPorts (world_settings settings) (length staff.registries) w.ports
   pub actors : w.actors ≡ map (λ objects. resting objects) staff.registries
 
--- A run of a script by these settings. Of a node it begins with an empty cache of them. Of a world it begins in a
--- new world of them, with eight actors, whose functions share the permits; afterwards nothing is open. Of a batch
--- the workers are as many as they say, and their functions share the permits. Or it did not begin.
+-- A run of a script by these settings. A node's begins with an empty cache. A world's begins in a new world,
+-- with eight actors whose functions share the permits; at the end nothing is open. A batch's has the workers of
+-- the settings, whose functions share the permits. Or the run did not begin.
 abbrev pub HasRunBy : Script → Settings → Option (List ℕ) → Option (List ℕ) → Option (List ℕ) → Option (List ℕ)
     → Result WordsStatus RunFault → Type 0
 HasRunBy (scripts.Node mode) settings remaining_old remaining_new contents_old contents_new result =

@@ -1,14 +1,14 @@
--- Those who call functions: actors, or workers.
+-- The callers of functions: actors, or workers.
 use Rattle.std.specs.Prelude.{◌≡◌, ℕ, List, All, length}
 use Rattle.txc_registry.specs.Objects.{Objects, numbers_of, AllIdle}
 use Rattle.txc_functions.specs.AnyFunction.{ALL_NUMBERS}
 
--- how many permits they share, and the registry of each
+-- the number of permits that they share, and the registry of each
 pub record StaffValue : Type 0 where
   pub permits : ℕ
   pub registries : List Objects
 
--- so many, all idle, who have all functions of the program and share so many permits
+-- this many callers, all idle, which have all functions of the program and share this many permits
 pub record IsStaff (permits count : ℕ) (staff : StaffValue) : Type 0 where
   pub shared : staff.permits ≡ permits
   pub counted : length staff.registries ≡ count

@@ -20,7 +20,7 @@ use txc_settings::{Script, Settings};
 use txc_words::OwnFault;
 use txc_world::World;
 
-/// How many actors a world has.
+/// The number of actors of a world.
 pub const ACTORS: usize = 8;
 
 /// Runs a world's script in a new world, with an actor for each registry.
@@ -59,7 +59,7 @@ fn run_by<R: Read, W: Write, H: Threads + Wait + Sync>(
     run_batch_script(rt, alloc, settings, workers, reader, writer)
 }
 
-/// Runs a batch's script by as many workers as the settings say.
+/// Runs a batch's script by as many workers as the settings have.
 fn run_by_workers<R: Read, W: Write, H: Threads + Wait + Sync>(
     rt: &H,
     alloc: Global,
@@ -77,11 +77,11 @@ fn run_by_workers<R: Read, W: Write, H: Threads + Wait + Sync>(
     run_by(rt, alloc, settings, workers, reader, writer)
 }
 
-/// Reads a script of this kind, and writes what its lines are answered, by the settings and with the program's
-/// functions. The status says what is wrong with a malformed line. A reader is read at most
-/// [`txc_script::MAX_READS`] times, where a read that was interrupted counts and is made again. One that has not
-/// reached its end by then is a read fault. The writer is flushed at the end, unless what the run begins with
-/// could not be made: then nothing was read.
+/// Reads a script of this kind, and writes the replies to its lines, by the settings and with the program's
+/// functions. The status has the fault of a malformed line. It reads the reader at most
+/// [`txc_script::MAX_READS`] times, where an interrupted read counts and is repeated; if it has not reached the
+/// end by then, that is a read fault. It flushes the writer at the end, unless it had no memory to begin: then
+/// it has read nothing.
 pub fn run<R: Read, W: Write, H: Threads + Wait + Sync>(
     rt: &H,
     alloc: Global,

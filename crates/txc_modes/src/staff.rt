@@ -1,4 +1,4 @@
-//! Those who call functions: actors, or workers.
+//! One function registry for each actor or worker.
 ghost use Rattle.std.specs.Prelude.{◌≡◌, ◌≤◌, IfOk};
 ghost use Rattle.txc_permits.specs.declared.pool.TheConstants.{MAX_PERMITS};
 
@@ -8,7 +8,7 @@ use txc_functions::{Object, Program, registries};
 use txc_permits::PermitPool;
 use txc_registry::Registry;
 
-/// A registry of the program's functions for each of those who call them. All of them share the permits of one pool.
+/// A registry of the program's functions for each actor or worker. All of them share the permits of one pool.
 #[derive(Drop)]
 pub struct Staff {
     pool: PermitPool,
@@ -26,7 +26,7 @@ impl Model for Staff {
 impl Staff {
     ghost use Rattle.txc_modes.specs.Staffs.{IsStaff};
 
-    /// So many registries, all idle, and so many permits.
+    /// Makes `count` idle registries, which share `permits` permits. Fails only if memory cannot be allocated.
     pub fn new(alloc: Global, permits: usize, count: usize) -> Result<Staff, AllocError>
         requires { (1 ≤ permits) × (permits ≤ MAX_PERMITS) }
         ensures { IfOk result (IsStaff permits count) }
@@ -37,7 +37,7 @@ impl Staff {
         Ok(Staff { pool, registries })
     }
 
-    /// The registries, whose functions go on sharing the permits.
+    /// Returns the registries, whose functions still share the permits.
     pub fn into_registries(self) -> Vec<Registry<Program, Object>>
         ensures { result.items ≡ self.registries }
     {

@@ -1,5 +1,5 @@
--- The versioned cache, and its steps: a lookup, an insertion and an event. Each step is a function of the
--- whole cache.
+-- The versioned cache, and its steps: a lookup, an insertion, an event, a sweep and a trim. Each step is a
+-- function of the whole cache.
 use Rattle.std.specs.Prelude.{◌≡◌, Option, ℕ, ◌+◌, ◌-◌, ◌<◌, ◌≤◌, Bool, ◌&&◌, nat_lt, nat_le, not, min, List, [], ◌∷◌, ◌++◌, map, length, take, drop, if◌then◌else◌, Some, None, slice_get, false}
 use Rattle.std.specs.List.{find, filter, position, count_by, sum_by, prefix_len, range_with_len}
 use Rattle.std.specs.Option.{option_map}
@@ -13,8 +13,8 @@ use Rattle.txc_node.specs.declared.node.Inserted.{Inserted}
 use Rattle.txc_node.specs.declared.node.Inserted.TheVariants.{Stored, Kept}
 use Rattle.txc_node.specs.Entries.{same_place, is_best, others, AreApart}
 
--- the entries, the most recently used first; the stamp of the last event that was taken; the tags of the
--- last events, the oldest first; the most entries that it holds; the most events whose tags it keeps
+-- the entries, the most recently used first; the stamp of the last event that was taken; the tags of the last
+-- events, the oldest first; the capacity; the number of events whose tags it stores
 pub record Cache : Type 0 where
   pub entries : List Entry
   pub processed : ℕ
@@ -27,12 +27,12 @@ abbrev pub empty_cache : ℕ → ℕ → Cache
 empty_cache capacity depth =
     record { entries = []; processed = 0; recent = []; capacity = capacity; depth = depth }
 
--- no entry yet, in a node that begins at that stamp: it keeps no tags of the events before
+-- an empty node that begins at that stamp: it has no tags of the events before
 abbrev pub empty_cache_at : ℕ → ℕ → ℕ → Cache
 empty_cache_at capacity depth from = record (empty_cache capacity depth) { processed = from }
 
--- What is true of a cache at whatever stamp it began. No two entries have the same key and first stamp. It holds no
--- more than its capacity, and the tags of no more than `depth` events.
+-- Invariant of a cache, at whatever stamp it began. No two entries have the same key and first stamp. It has no
+-- more entries than its capacity, and the tags of at most `depth` events.
 pub record IsBounded (c : Cache) : Type 0 where
   pub apart : AreApart c.entries
   pub within : length c.entries ≤ c.capacity
@@ -40,9 +40,8 @@ pub record IsBounded (c : Cache) : Type 0 where
   pub some : 0 < c.capacity
   pub any : 0 < c.depth
 
--- What is true of a cache after every list of steps. No two entries have the same key and first stamp. It
--- holds no more than its capacity. And it keeps the tags of its last `depth` events, or of all while there
--- are fewer.
+-- Invariant of a cache after every list of steps. No two entries have the same key and first stamp. It has no
+-- more entries than its capacity. It has the tags of its last `depth` events, or of all while there are fewer.
 pub record IsCache (c : Cache) : Type 0 where
   pub apart : AreApart c.entries
   pub within : length c.entries ≤ c.capacity
@@ -50,13 +49,13 @@ pub record IsCache (c : Cache) : Type 0 where
   pub some : 0 < c.capacity
   pub any : 0 < c.depth
 
--- ---- a lookup: of the entries that meet the range, the one that none outlasts moves to the front
+-- ---- a lookup: of the entries that meet the range, the one that no other outlasts moves to the front
 
 -- the entry that a lookup finds: the one that meets the range and that none outlasts
 abbrev pub found : Cache → Call → ℕ → ℕ → Option Entry
 found c key lo hi = find (is_best c.processed key lo hi c.entries) c.entries
 
--- the entry that was used stands first, and the others keep their order
+-- the used entry comes first, and the others keep their order
 abbrev pub after_use : Cache → Option Entry → Cache
 after_use c None = c
 after_use c (Some e) = record c { entries = e ∷ others e c.entries }
@@ -65,7 +64,7 @@ after_use c (Some e) = record c { entries = e ∷ others e c.entries }
 abbrev pub after_lookup : Cache → Call → ℕ → ℕ → Cache
 after_lookup c key lo hi = after_use c (found c key lo hi)
 
--- what a hit shows of an entry, its reach known up to the last stamp of its span
+-- the hit of an entry, with its reach known up to the last stamp of its span
 abbrev pub shown_of : ℕ → Entry → Shown
 shown_of processed e = record { reach = shown processed e.reach; value = e.value; tags = e.tags }
 
@@ -80,7 +79,7 @@ abbrev pub closed_before : Option ℕ → Interval → Interval
 closed_before None i = i
 closed_before (Some k) i = closed_at (i.known + k) i
 
--- the last n of a list, or all where there are fewer
+-- the last n of a list, or all if there are fewer
 abbrev pub last_of : {X : Type 0} → ℕ → List X → List X
 last_of n xs = drop (length xs - n) xs
 
@@ -89,8 +88,8 @@ last_of n xs = drop (length xs - n) xs
 abbrev pub after_missed : Interval → List Tag → List (List Tag) → Interval
 after_missed i tags missed = closed_before (position (λ t. sets_match t tags) missed) i
 
--- A still valid reach after so many events, of which the last ones are kept: closed at its own `known`
--- where one of them is no longer kept, and else as these events leave it.
+-- A still valid reach after `count` events, of which the last ones are stored: closed at its own `known` if one
+-- of them is no longer stored, and otherwise as these events leave it.
 abbrev pub after_kept : Interval → List Tag → ℕ → List (List Tag) → Interval
 after_kept i tags count recent =
     if nat_lt (length recent) count then closed_at i.known i
@@ -109,7 +108,7 @@ replayed_reach c e = reach_after_replay e.reach e.tags c.processed c.recent
 abbrev pub replayed_entry : Cache → Entry → Entry
 replayed_entry c e = record e { reach = replayed_reach c e }
 
--- the entry that stands there, if one does, ends no earlier than the new one
+-- the entry at the same place, if there is one, ends no earlier than the new one
 abbrev pub ends_no_earlier : ℕ → Entry → Option Entry → Bool
 ends_no_earlier processed e None = false
 ends_no_earlier processed e (Some old) = nat_le (end_at processed e.reach) (end_at processed old.reach)
@@ -130,7 +129,7 @@ after_insert c e = if is_kept c e then c else record c { entries = take c.capaci
 abbrev pub evicted_entry : Cache → Entry → Option Entry
 evicted_entry c e = slice_get (entries_with c e) c.capacity
 
--- kept, with the entry handed in; or stored, with the reach after the replay and the entry that was dropped
+-- kept, with the new entry; or stored, with the reach after the replay and the entry that was dropped
 abbrev pub outcome : Cache → Entry → Inserted
 outcome c e =
     if is_kept c e then Kept e
@@ -155,7 +154,7 @@ after_event c stamp tags = record c {
   recent = last_of c.depth (c.recent ++ tags ∷ []);
 }
 
--- how many entries the event closes
+-- the number of entries that the event closes
 abbrev pub closed_count : Cache → ℕ → List Tag → ℕ
 closed_count c stamp tags = count_by (is_invalidated stamp tags) c.entries
 
@@ -165,25 +164,25 @@ closed_count c stamp tags = count_by (is_invalidated stamp tags) c.entries
 abbrev pub has_ended : ℕ → ℕ → Entry → Bool
 has_ended processed horizon e = nat_le (end_at processed e.reach) horizon
 
--- the cache after a sweep: exactly these entries are dropped, and the others keep their order
+-- the cache after a sweep: exactly the ended entries are dropped, and the others keep their order
 abbrev pub after_sweep : Cache → ℕ → Cache
 after_sweep c horizon = record c { entries = filter (λ e. not (has_ended c.processed horizon e)) c.entries }
 
--- how many entries the sweep drops
+-- the number of entries that the sweep drops
 abbrev pub swept_count : Cache → ℕ → ℕ
 swept_count c horizon = count_by (has_ended c.processed horizon) c.entries
 
--- ---- a trim: the first entries stay whose values have at most so many bytes in all
+-- ---- a trim: the first entries stay whose values have at most `most` bytes in all
 
 -- the bytes of the values of these entries, in all
 abbrev pub bytes_of : List Entry → ℕ
 bytes_of es = sum_by (λ e. length e.value) es
 
--- the values of the first n of these entries have at most so many bytes in all
+-- the values of the first n of these entries have at most `most` bytes in all
 abbrev pub fits : ℕ → List Entry → ℕ → Bool
 fits most es n = nat_le (bytes_of (take n es)) most
 
--- how many of these entries stay: the first, the first two, and so on up to the last number that fits
+-- the number of these entries that stay: all prefixes up to this length fit
 abbrev pub staying_count : ℕ → List Entry → ℕ
 staying_count most es = prefix_len (fits most es) (range_with_len 1 (length es))
 
@@ -195,6 +194,6 @@ longest_within most es = take (staying_count most es) es
 abbrev pub after_trim : Cache → ℕ → Cache
 after_trim c most = record c { entries = longest_within most c.entries }
 
--- how many entries the trim drops
+-- the number of entries that the trim drops
 abbrev pub trimmed_count : Cache → ℕ → ℕ
 trimmed_count c most = length c.entries - staying_count most c.entries

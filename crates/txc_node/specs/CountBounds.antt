@@ -1,5 +1,5 @@
--- What the counts keep, and what private functions ask of them: proofs alone need it. No count exceeds what
--- so many replies can make of it.
+-- Invariant of the counts, and preconditions of private functions: only proofs need it. No count exceeds what
+-- the number of replies allows.
 use Rattle.std.specs.Prelude.{◌≡◌, ℕ, ◌+◌, ◌-◌, ◌*◌, ◌^◌, ◌≤◌, length}
 use Rattle.txc_tags.specs.declared.key.TheConstants.{LAST_FUNCTION}
 use Rattle.txc_node.specs.declared.counts.FunctionCounts.{FunctionCounts}
@@ -17,7 +17,7 @@ pub record IsAtMost (n : ℕ) (counts : FunctionCounts) : Type 0 where
 abbrev pub HasRoom : FunctionCounts → FunctionCounts → Type 0
 HasRoom counts more = IsAtMost (2 ^ 64 - 1) (sum_of counts more)
 
--- the counts of so many replies
+-- the counts are those of at most that many replies
 pub record AreWithin (t : Totals) : Type 0 where
   pub all : length t.functions ≡ LAST_FUNCTION + 1
   pub each : (f : ℕ) → IsAtMost t.replies (counts_of t.functions f)

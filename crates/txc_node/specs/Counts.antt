@@ -9,8 +9,8 @@ use Rattle.txc_node.specs.declared.reply.Reply.{Reply}
 use Rattle.txc_node.specs.declared.reply.Reply.TheVariants as replies
 use Rattle.txc_node.specs.Steps.{function_of}
 
--- the counts of each function, by its number; how many replies were counted; and in all the events, the
--- entries that they closed, and those that sweeps and trims dropped
+-- the counts of each function, by its number; the number of counted replies; and in all the events, the entries
+-- that they closed, and those that sweeps and trims dropped
 pub record Totals : Type 0 where
   pub functions : List FunctionCounts
   pub replies : ℕ
@@ -39,12 +39,12 @@ sum_of a b = record {
   evicted = a.evicted + b.evicted;
 }
 
--- these counts where the function is f, and else none
+-- these counts if the function is f, otherwise none
 abbrev pub counts_if : Option ℕ → ℕ → FunctionCounts → FunctionCounts
 counts_if None f counts = none_counted
 counts_if (Some function) f counts = if function == f then counts else none_counted
 
--- what a reply counts for the function whose call was looked up or inserted
+-- the counts of a reply for the function whose call was looked up or inserted
 abbrev pub own_counts : {H : Type 0} → Reply H → FunctionCounts
 own_counts (replies.Inserted (Stored reach evicted)) = record none_counted { stored = 1 }
 own_counts (replies.Inserted (Kept entry)) = record none_counted { kept = 1 }
@@ -62,35 +62,35 @@ abbrev pub dropped_function : {H : Type 0} → Reply H → Option ℕ
 dropped_function (replies.Inserted (Stored reach evicted)) = entry_function evicted
 dropped_function _ = None
 
--- what a reply to a step of that function counts for the function f: its own counts where f is that
--- function, and an eviction where f is that of the entry that was dropped
+-- the counts of a reply, to a step of that function, for the function f: its own counts if f is that function,
+-- and an eviction if f is the function of the entry that was dropped
 abbrev pub counts_for : {H : Type 0} → ℕ → Option ℕ → Reply H → FunctionCounts
 counts_for f function reply =
     sum_of (counts_if function f (own_counts reply)) (counts_if (dropped_function reply) f one_evicted)
 
--- how many events the reply is to
+-- the number of events that the reply answers, 0 or 1
 abbrev pub events_by : {H : Type 0} → Reply H → ℕ
 events_by (replies.Closed count) = 1
 events_by _ = 0
 
--- how many entries an event closed
+-- the number of entries that an event closed
 abbrev pub closed_by : {H : Type 0} → Reply H → ℕ
 closed_by (replies.Closed count) = count
 closed_by _ = 0
 
--- how many entries a sweep dropped
+-- the number of entries that a sweep dropped
 abbrev pub swept_by : {H : Type 0} → Reply H → ℕ
 swept_by (replies.Swept count) = count
 swept_by _ = 0
 
--- how many entries a trim dropped
+-- the number of entries that a trim dropped
 abbrev pub trimmed_by : {H : Type 0} → Reply H → ℕ
 trimmed_by (replies.Trimmed count) = count
 trimmed_by _ = 0
 
 -- ---- a history
 
--- what a step of a history counts for the function f
+-- the counts of a step of a history for the function f
 abbrev pub step_counts : ℕ → Record → FunctionCounts
 step_counts f step = counts_for f (function_of step.op) step.reply
 

@@ -1,4 +1,4 @@
--- Worked examples of the steps: what the definitions give, beside what was found by hand.
+-- Worked examples of the steps: the results of the definitions equal those found by hand.
 use Rattle.std.specs.Prelude.{◌≡◌, ℕ, true, false, List, [], ◌∷◌, Option, Some, None}
 use Rattle.txc_stamp.specs.Interval.{Interval}
 use Rattle.txc_tags.specs.declared.tag.Tag.{Tag}

@@ -1,4 +1,4 @@
--- What a caller reads off a hit.
+-- The value of a hit.
 use Rattle.txc_stamp.specs.Interval.{Interval}
 use Rattle.txc_node.specs.declared.hit.Hit.{Hit}
 use Rattle.txc_node.specs.declared.hit.Shown.{Shown}
@@ -7,6 +7,6 @@ use Rattle.txc_node.specs.declared.hit.Shown.{Shown}
 abbrev pub hit_reach : Hit → Interval
 hit_reach h = record h.stored.now { known = h.last }
 
--- what a hit shows
+-- the copy of a hit
 abbrev pub seen : Hit → Shown
 seen h = record { reach = hit_reach h; value = h.value.now; tags = h.tags.now }

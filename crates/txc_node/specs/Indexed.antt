@@ -1,5 +1,5 @@
--- The entries of a node as they are held, and the indexes that find them. Proofs alone need it, but for
--- `entries_under` and `IsSearchOf`, of which public contracts speak.
+-- The entries of a node as they are stored, and the indexes that find them. Only proofs need it, except
+-- `entries_under` and `IsSearchOf`, which public contracts use.
 use Rattle.std.specs.Prelude.{◌≡◌, ℕ, ◌+◌, ◌-◌, ◌<◌, ◌≤◌, Bool, true, false, ◌&&◌, ◌||◌, ◌==◌, nat_lt, nat_le, if◌then◌else◌, Option, Some, None, unwrap_or, List, [], ◌∷◌, map, length, slice_get}
 use Rattle.std.specs.List.{AllByRecursion, filter, find, list_any, count_by}
 use Rattle.std.specs.Map.{lookup, set_value}
@@ -27,11 +27,11 @@ use Rattle.txc_node.specs.Cache.{Cache, found, is_invalidated, entry_after}
 abbrev pub entry_of : Place × Stored → Entry
 entry_of p = record { key = p.0.key; value = p.1.value; reach = p.1.reach; tags = p.1.tags }
 
--- what is stored of an entry
+-- the stored part of an entry
 abbrev pub stored_of : Entry → Stored
 stored_of e = record { value = e.value; reach = e.reach; tags = e.tags }
 
--- what a hit shows of what is stored
+-- the hit of a stored entry
 abbrev pub shown_as : ℕ → Stored → Shown
 shown_as processed s = record { reach = shown processed s.reach; value = s.value; tags = s.tags }
 
@@ -39,7 +39,7 @@ shown_as processed s = record { reach = shown processed s.reach; value = s.value
 abbrev pub entries_of : List (Place × Stored) → List Entry
 entries_of ps = map entry_of ps
 
--- each stands at the place of its entry
+-- each is at the place of its entry
 abbrev pub ArePlaced : List (Place × Stored) → Type 0
 ArePlaced ps = AllByRecursion (λ p. p.0 ≡ place_of (entry_of p)) ps
 
@@ -47,7 +47,7 @@ ArePlaced ps = AllByRecursion (λ p. p.0 ≡ place_of (entry_of p)) ps
 abbrev pub entry_at : List Entry → Place → Option Entry
 entry_at es q = find (λ e. equal_places q (place_of e)) es
 
--- a still valid entry stands at the place
+-- the place has a still valid entry
 unfoldable pub is_live : List Entry → Place → Bool
 is_live es q = unwrap_or (option_map (λ e. e.reach.still) (entry_at es q)) false
 
@@ -66,7 +66,7 @@ entries_under key es = filter (λ e. same_call e.key key) es
 abbrev pub reaches_under : Call → List Entry → List Interval
 reaches_under key es = map (λ e. e.reach) (entries_under key es)
 
--- what an index lists for a key
+-- the reaches that an index lists for a key
 abbrev pub listed : List (Call × List Interval) → Call → List Interval
 listed index key = unwrap_or (lookup (same_call key) index) []
 
@@ -74,7 +74,7 @@ listed index key = unwrap_or (lookup (same_call key) index) []
 abbrev pub IndexesKeys : List (Call × List Interval) → List Entry → Type 0
 IndexesKeys index es = (key : Call) → listed index key ≡ reaches_under key es
 
--- of the key it lists these now, and of all others what it listed
+-- it now lists these for the key, and the same as before for all others
 abbrev pub Relists : Call → List Interval → List (Call × List Interval) → List (Call × List Interval) → Type 0
 Relists key rs old new = (k : Call) → listed new k ≡ (if same_call key k then rs else listed old k)
 
@@ -92,22 +92,22 @@ pub record AreOf (key : Call) (es : List Entry) (rs : List Interval) : Type 0 wh
   pub of_key : AllByRecursion (λ e. same_call e.key key ≡ true) es
   pub reaches : map (λ e. e.reach) es ≡ rs
 
--- the reach in the stead of one that begins alike
+-- the new reach if the old one begins at the same stamp, otherwise the old one
 abbrev pub in_stead : Interval → Interval → Interval
 in_stead new old = if old.lo == new.lo then new else old
 
--- no entry is found, or the one that stands there in the list, and has that reach
+-- no entry is found, or the one at that place of the list, and it has that reach
 abbrev pub IsFound : List Entry → Option Entry → Option Found → Type 0
 IsFound es o None = o ≡ None
 IsFound es o (Some f) = (e : Entry) × (o ≡ Some e) × (slice_get es f.at ≡ Some e) × (f.reach ≡ e.reach)
 
--- the search was one of the entries of the key in this cache: it says where the entry stands that a lookup
--- finds at its stamps, if there is one, and how many entries the key has
+-- the search was one of the entries of the key in this cache: it has the place of the entry that a lookup at
+-- its stamps finds, if there is one, and the number of entries of the key
 pub record IsSearchOf (c : Cache) (key : Call) (s : Search) : Type 0 where
   pub stands : IsFound (entries_under key c.entries) (found c key s.lo s.hi) s.found
   pub looked : s.looked ≡ length (entries_under key c.entries)
 
--- an entry has the place of e, and stands there among those of its key
+-- an entry has the place of e, and is at that place among those of its key
 abbrev pub StandsUnder : Entry → List Entry → ℕ → Type 0
 StandsUnder e es at = (o : Entry) × (find (λ x. same_place x e) es ≡ Some o)
     × (slice_get (entries_under e.key es) at ≡ Some o)
@@ -147,18 +147,18 @@ IsListed tables q s = s.reach.still ≡ true → AllByRecursion (λ t. lists tab
 abbrev pub IndexesTags : {S : Type 0} → List (HashMap Rows (List Place) S) → List Entry → Type 0
 IndexesTags tables es = AllByRecursion (λ e. IsListed tables (place_of e) (stored_of e)) es
 
--- what was listed still is, but for what P leaves open
+-- each listed place stays listed, unless P excludes it
 abbrev pub KeepsListed : {S : Type 0} → (Tag → Place → Type 0)
     → (old new : List (HashMap Rows (List Place) S)) → Type 0
 KeepsListed P old new = (t : Tag) (q : Place) → P t q → lists old t q ≡ true → lists new t q ≡ true
 
--- ---- what an event has closed so far
+-- ---- the effect of an event so far
 
 -- the event closes what is stored
 abbrev pub is_stale : ℕ → List Tag → Stored → Bool
 is_stale stamp tags s = s.reach.still && (nat_lt s.reach.known stamp && sets_match tags s.tags)
 
--- what is stored after it
+-- the stored entry after it
 abbrev pub stored_after : ℕ → List Tag → Stored → Stored
 stored_after stamp tags s =
     if is_stale stamp tags s then record s { reach = closed_at (stamp - 1) s.reach } else s
@@ -169,7 +169,7 @@ closed_reach stamp tags None = None
 closed_reach stamp tags (Some s) =
     if is_stale stamp tags s then Some (closed_at (stamp - 1) s.reach) else None
 
--- what is stored after it is still valid
+-- the stored entry is still valid after it
 abbrev pub stays_live : ℕ → List Tag → Option Stored → Bool
 stays_live stamp tags None = false
 stays_live stamp tags (Some s) = (stored_after stamp tags s).reach.still
@@ -194,7 +194,7 @@ abbrev pub AreSparedBy : {S : Type 0} → ℕ → List Tag → List Entry
 AreSparedBy stamp tags es tables tag = (t : Tag) (q : Place) → tags_match tag t ≡ true
     → lists tables t q ≡ true → IsSpared stamp tags es q
 
--- of the old entries the event has closed n, and where it invalidated none before, it does so now
+-- the event has closed n of the old entries so far; the remaining work is the same
 pub record Closes (stamp : ℕ) (tags : List Tag) (old new : HeldEntries) (n : ℕ) : Type 0 where
   pub after : map (entry_after stamp tags) new.entries ≡ map (entry_after stamp tags) old.entries
   pub capacity : new.capacity ≡ old.capacity

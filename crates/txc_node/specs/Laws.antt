@@ -1,4 +1,4 @@
--- What the steps of the cache mean, in the words of their rules.
+-- The rules of the steps of the cache, as laws.
 use Rattle.std.specs.Prelude.{◌≡◌, ℕ, ◌+◌, ◌-◌, ◌<◌, ◌≤◌, ◌⊎◌, ◌↔◌, true, false, max, length, take, List, [], ◌∷◌, ◌++◌, Some, None, All, AllPairs, Contains}
 use Rattle.txc_stamp.specs.Interval.{end_at, Spans, closed_at}
 use Rattle.txc_tags.specs.declared.tag.Tag.{Tag}
@@ -27,18 +27,18 @@ pub record IsLongest (c : Cache) (key : Call) (lo hi : ℕ) (e : Entry) : Type 0
   pub meets : MeetsRange c.processed key lo hi e
   pub longest : All (λ o. ¬ (MeetsRange c.processed key lo hi o × LastsLonger c.processed o e)) c.entries
 
--- what a lookup finds is the entry that meets the range and lasts longest
+-- a lookup finds the entry that meets the range and lasts longest
 abbrev pub FindsTheLongest : Type 0
 FindsTheLongest =
     (c : Cache) (key : Call) (lo hi : ℕ) (e : Entry) → found c key lo hi ≡ Some e → IsLongest c key lo hi e
 
--- a lookup misses only where no entry meets the range
+-- a lookup misses only if no entry meets the range
 abbrev pub MissesOnlyWhereNone : Type 0
 MissesOnlyWhereNone =
     (c : Cache) (key : Call) (lo hi : ℕ) → found c key lo hi ≡ None
     → All (λ o. ¬ (MeetsRange c.processed key lo hi o)) c.entries
 
--- the span of an entry meets a range that is not empty exactly where a stamp of the range lies in the span
+-- the span of an entry meets a range that is not empty exactly if they share a stamp
 abbrev pub MeetsAtAStamp : Type 0
 MeetsAtAStamp = (processed lo hi : ℕ) (e : Entry) → lo ≤ hi → e.reach.lo ≤ e.reach.known
     → MeetsRange processed e.key lo hi e ↔ ((t : ℕ) × (lo ≤ t) × (t ≤ hi) × Spans processed e.reach t)
@@ -81,8 +81,8 @@ abbrev pub after_events : ℕ → List (List Tag) → Entry → Entry
 after_events stamp [] e = e
 after_events stamp (tags ∷ more) e = after_events (stamp + 1) more (entry_after stamp tags e)
 
--- where all the events that a still valid entry has missed are kept, it is stored as if it had been there
--- when they came
+-- if the tags of all events that a still valid entry has missed are stored, it is stored as if it had been in
+-- the node when they came
 abbrev pub ReplaysAsIfItHadBeenThere : Type 0
 ReplaysAsIfItHadBeenThere =
     (c : Cache) (e : Entry) → e.reach.still ≡ true
@@ -90,7 +90,7 @@ ReplaysAsIfItHadBeenThere =
     missed ≤ length c.recent
     → replayed_entry c e ≡ after_events (e.reach.known + 1) (last_of missed c.recent) e)
 
--- where one of them is no longer kept, it is stored as closed at the last stamp on which it was known
+-- if the tags of one of them are no longer stored, it is stored as closed at its last known stamp
 abbrev pub TrustsNoLostEvent : Type 0
 TrustsNoLostEvent =
     (c : Cache) (e : Entry) → e.reach.still ≡ true
@@ -105,8 +105,8 @@ SamePlace a b = (a.key ≡ b.key) × (a.reach.lo ≡ b.reach.lo)
 abbrev pub IsThere : Entry → List Entry → Type 0
 IsThere e es = (old : Entry) × Contains es old × SamePlace old e
 
--- an entry that is there is kept exactly where it ends no earlier than the new one does after the replay;
--- where none is there, none is kept
+-- the entry at the same place is kept exactly if it ends no earlier than the new one does after the replay;
+-- without such an entry, none is kept
 pub record KeepsTheLonger (c : Cache) (e : Entry) : Type 0 where
   pub there : (old : Entry) → Contains c.entries old → SamePlace old e
       → (is_kept c e ≡ true) ↔ (end_at c.processed (replayed_reach c e) ≤ end_at c.processed old.reach)
@@ -116,8 +116,8 @@ pub record KeepsTheLonger (c : Cache) (e : Entry) : Type 0 where
 abbrev pub InsertionKeepsTheLonger : Type 0
 InsertionKeepsTheLonger = (c : Cache) (e : Entry) → IsCache c → KeepsTheLonger c e
 
--- an insertion drops nothing where an entry is there, nor where there is room, and else exactly the last
--- entry
+-- an insertion drops nothing if it replaces or keeps an entry, nor if there is room, and otherwise exactly the
+-- last entry
 pub record DropsTheLast (c : Cache) (e : Entry) : Type 0 where
   pub there : IsThere e c.entries → evicted_entry c e ≡ None
   pub not_full : length c.entries < c.capacity → evicted_entry c e ≡ None
@@ -130,8 +130,8 @@ InsertionDropsTheLast = (c : Cache) (e : Entry) → IsCache c → DropsTheLast c
 
 -- ---- sweep
 
--- after a sweep an entry is there exactly where it was there and its span ends after the horizon; and each
--- that is not was counted
+-- after a sweep the cache has exactly the entries whose span ends after the horizon; each dropped entry was
+-- counted
 pub record DropsTheEnded (c : Cache) (horizon : ℕ) : Type 0 where
   pub left : (e : Entry) → Contains (after_sweep c horizon).entries e
       ↔ (Contains c.entries e × (horizon < end_at c.processed e.reach))
@@ -148,8 +148,8 @@ ChangesNoLaterAnswer = (c : Cache) (horizon : ℕ) (key : Call) (lo hi : ℕ) �
 
 -- ---- trim
 
--- The entries that a trim leaves stood first, in their order. Their values have at most `most` bytes in all, and with
--- one entry more they would have more. Each that is not left was counted.
+-- The entries that a trim leaves were the first, in their order. Their values have at most `most` bytes in all,
+-- and with one more entry they would have more. Each dropped entry was counted.
 pub record KeepsTheFirst (c : Cache) (most : ℕ) : Type 0 where
   pub dropped : List Entry
   pub first : c.entries ≡ (after_trim c most).entries ++ dropped

@@ -1,4 +1,4 @@
--- Where an entry stands: its key, and its first stamp.
+-- The place of an entry: its key, and its first stamp.
 use Rattle.std.proofs.Common.{◌≡◌, ◌==◌, ◌&&◌, ◌+◌, ◌*◌, ◌%◌, ◌^◌, Bool, ℕ, true, refl, ap, subst, ◌∙◌}
 use Rattle.std.specs.Bool.{Decides}
 use Rattle.std.specs.Hash.{HashWrites, same_Alike}
@@ -30,7 +30,7 @@ mixed word number = (word * MIX % 2 ^ 64 + number) % 2 ^ 64
 abbrev pub equal_places : Place → Place → Bool
 equal_places a b = same_call a.key b.key && a.lo == b.lo
 
--- the test of two places says whether they are one
+-- the test of two places decides if they are equal
 pub equal_places_itself : (a : Place) → equal_places a a ≡ true
 equal_places_itself a =
     and_true (same_call a.key a.key) (a.lo == a.lo) (same_call_itself a.key) (eq-eqb a.lo a.lo refl)
@@ -48,7 +48,7 @@ equal_places_decides a b =
 pub equal_places_alike : (feed : Place → HashWrites) (x y : Place) → equal_places x y ≡ true → feed x ≡ feed y
 equal_places_alike feed = (same_Alike feed equal_places_decides).fed
 
--- the test of two calls says whether they are one
+-- the test of two calls decides if they are equal
 pub same_call_decides : (a b : Call) → Decides (same_call a b) (a ≡ b)
 same_call_decides a b =
     (same_call_is a b, λ e. subst (λ (c : Call). same_call a c ≡ true) e (same_call_itself a))

@@ -1,4 +1,4 @@
--- Steps as values: what a node is asked for, what it answers, and the cache that it leaves.
+-- Steps as values: requests to a node, its replies, and the cache after them.
 use Rattle.std.specs.Prelude.{◌≡◌, ℕ, ◌+◌, Bool, true, false, Option, Some, None, nat_lt, ◌==◌, ◌⊎◌, if◌then◌else◌, length}
 use Rattle.txc_node.specs.declared.entry.Entry.{Entry}
 use Rattle.txc_node.specs.declared.entry.EntryError.{EntryError}
@@ -24,7 +24,7 @@ function_of (Trim most) = None
 
 -- ---- replies
 
--- the reply is a refusal
+-- the reply is an error
 abbrev pub is_refusal : {H : Type 0} → Reply H → Bool
 is_refusal (replies.Inserted inserted) = false
 is_refusal (replies.Hit hit) = false
@@ -34,7 +34,7 @@ is_refusal (replies.Swept count) = false
 is_refusal (replies.Trimmed count) = false
 is_refusal (replies.Refused refusal) = true
 
--- the reply, with what its hit shows in the place of the hit
+-- the reply, with a copy of its hit
 abbrev pub seen_reply : Reply Hit → Reply Shown
 seen_reply (replies.Inserted inserted) = replies.Inserted inserted
 seen_reply (replies.Hit hit) = replies.Hit (seen hit)
@@ -44,27 +44,27 @@ seen_reply (replies.Swept count) = replies.Swept count
 seen_reply (replies.Trimmed count) = replies.Trimmed count
 seen_reply (replies.Refused refusal) = replies.Refused refusal
 
--- what a lookup replies, by what it finds
+-- the reply of a lookup, by its result
 abbrev pub found_reply : Option Shown → Reply Shown
 found_reply None = replies.Miss
 found_reply (Some shown) = replies.Hit shown
 
--- ---- refusals
+-- ---- errors
 
--- what an entry that cannot be made is refused as
+-- the error of a step for an entry that cannot be made
 abbrev pub refusal_by : EntryError → Refusal
 refusal_by entries.BadReach = BadReach
 refusal_by entries.ValueTooLong = ValueTooLong
 
--- why there is no such entry, where a value has at most so many bytes: it is known up to a stamp below its first one;
--- or else its value is too long
+-- the error of such an entry, if a value may have at most `longest` bytes: its last known stamp is below its
+-- first; or else its value is too long
 abbrev pub entry_refusal : ℕ → Entry → Option Refusal
 entry_refusal longest e =
     if nat_lt e.reach.known e.reach.lo then Some BadReach
     else (if nat_lt longest (length e.value) then Some ValueTooLong else None)
 
--- Why a step is refused where a value has at most so many bytes, whatever memory is left: there is no such entry; a
--- lookup's stamps end before they begin; an event is not the next.
+-- The error of a step, if a value may have at most `longest` bytes, whatever memory is left: an entry that
+-- cannot be made; stamps of a lookup that end before they begin; an event that is not the next.
 abbrev pub refusal_of : ℕ → Cache → Op → Option Refusal
 refusal_of longest c (Insert e) = entry_refusal longest e
 refusal_of longest c (Lookup key lo hi) = if nat_lt hi lo then Some EmptyRange else None
@@ -74,7 +74,7 @@ refusal_of longest c (Trim most) = None
 
 -- ---- steps
 
--- what a step replies that is not refused
+-- the reply of a step that does not fail
 abbrev pub step_reply : Cache → Op → Reply Shown
 step_reply c (Insert e) = replies.Inserted (outcome c e)
 step_reply c (Lookup key lo hi) = found_reply (lookup_answer c key lo hi)
@@ -90,16 +90,16 @@ after_step c (Event stamp tags) = after_event c stamp tags
 after_step c (Sweep horizon) = after_sweep c horizon
 after_step c (Trim most) = after_trim c most
 
--- a step is refused, or has its reply
+-- a step fails with the error, or has its reply
 abbrev pub reply_by : Option Refusal → Reply Shown → Reply Shown
 reply_by None reply = reply
 reply_by (Some refusal) reply = replies.Refused refusal
 
--- what is replied where memory is at hand, and a value has at most so many bytes
+-- the reply if memory can be allocated and a value may have at most `longest` bytes
 abbrev pub reply_to : ℕ → Cache → Op → Reply Shown
 reply_to longest c op = reply_by (refusal_of longest c op) (step_reply c op)
 
--- a refused step changes nothing
+-- a failed step changes nothing
 abbrev pub cache_by : Option Refusal → Cache → Cache → Cache
 cache_by None c next = next
 cache_by (Some refusal) c next = c
@@ -108,7 +108,7 @@ cache_by (Some refusal) c next = c
 abbrev pub after_op : ℕ → Cache → Op → Cache
 after_op longest c op = cache_by (refusal_of longest c op) c (after_step c op)
 
--- a step that may be refused for memory: an insertion of an entry, where no other is kept in its stead
+-- a step that may fail for memory: an insertion that does not keep an old entry
 abbrev pub MayGrow : ℕ → Cache → Op → Type 0
 MayGrow longest c (Insert e) = (entry_refusal longest e ≡ None) × (is_kept c e ≡ false)
 MayGrow longest c (Lookup key lo hi) = ⊥
@@ -116,8 +116,8 @@ MayGrow longest c (Event stamp tags) = ⊥
 MayGrow longest c (Sweep horizon) = ⊥
 MayGrow longest c (Trim most) = ⊥
 
--- The step has this reply, and leaves that cache: those that it has where memory is at hand; or it may
--- grow, is refused for memory, and changes nothing.
+-- The step has this reply, and leaves that cache: those with memory at hand; or it may need memory, fails for
+-- it, and changes nothing.
 abbrev pub MayReply : ℕ → Cache → Op → Reply Shown → Cache → Type 0
 MayReply longest c op reply next =
     ((reply ≡ reply_to longest c op) × (next ≡ after_op longest c op))

@@ -1,4 +1,4 @@
--- What a sweep leaves of the entries, and of the index of their keys. Proofs alone need it.
+-- The entries after a sweep, and the index of their keys. Only proofs need it.
 use Rattle.std.specs.Prelude.{◌≡◌, ℕ, Bool, true, false, not, nat_le, Some, None, List, slice_get}
 use Rattle.std.specs.List.{AllByRecursion, filter}
 use Rattle.std.specs.HashMap.{HashMap}
@@ -23,7 +23,7 @@ ends_by processed horizon r = nat_le (end_at processed r) horizon
 abbrev pub lasting : ℕ → ℕ → List Interval → List Interval
 lasting processed horizon rs = filter (λ r. not (ends_by processed horizon r)) rs
 
--- all of these keys have such reaches alone
+-- all of these keys have only such reaches
 abbrev pub AreAllLasting : ℕ → ℕ → List (Call × List Interval) → Type 0
 AreAllLasting processed horizon xs =
     AllByRecursion (λ x. AllByRecursion (λ r. ends_by processed horizon r ≡ false) x.1) xs
@@ -40,11 +40,11 @@ pub record AreStored {S : Type 0} (tables : List (HashMap Rows (List Place) S)) 
   pub apart : AreApart (entries_of ps)
   pub listed : IndexesTags tables (entries_of ps)
 
--- an entry that stands at the place of a key and a reach has that reach
+-- an entry at the place of a key and a reach has that reach
 abbrev pub HasReach : List Entry → Call → Interval → Type 0
 HasReach es key r = (e : Entry) → entry_at es (place_at key r.lo) ≡ Some e → e.reach ≡ r
 
--- no entry stands at the place of a key and a reach that has ended
+-- no entry is at the place of a key and a reach that has ended
 abbrev pub IsGone : ℕ → ℕ → List Entry → Call → Interval → Type 0
 IsGone processed horizon es key r =
     ends_by processed horizon r ≡ true → entry_at es (place_at key r.lo) ≡ None
@@ -54,7 +54,7 @@ abbrev pub AreGoneAt : ℕ → ℕ → List Entry → List (Call × List Interva
 AreGoneAt processed horizon es xs i = (x : Call × List Interval) → slice_get xs i ≡ Some x
     → AllByRecursion (IsGone processed horizon es x.0) x.1
 
--- whatever went of the old entries has ended, and what is left stood where it stands
+-- each dropped entry has ended, and the others are where they were
 pub record Sheds (processed horizon : ℕ) (old new : List Entry) : Type 0 where
   pub left : filter (λ e. not (has_ended processed horizon e)) new
       ≡ filter (λ e. not (has_ended processed horizon e)) old

@@ -35,7 +35,7 @@ abbrev pub evicted_text : Option Entry → List ℕ
 evicted_text None = []
 evicted_text (Some e) = codes " evicted " ++ (key_text e.key ++ (codes "@" ++ decimal e.reach.lo))
 
--- what an insertion did
+-- the text of an insertion's result
 abbrev pub inserted_text : Inserted → List ℕ
 inserted_text (Stored reach evicted) = codes "stored " ++ (reach_text reach ++ evicted_text evicted)
 inserted_text (Kept entry) = codes "kept"

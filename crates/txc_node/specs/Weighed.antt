@@ -1,4 +1,4 @@
--- Entries at their places, and the bytes of their values. Proofs alone need it.
+-- Entries by their places, and the bytes of their values. Only proofs need it.
 use Rattle.std.specs.Prelude.{◌≡◌, ℕ, ◌≤◌, Option, Some, None, length}
 use Rattle.std.specs.List.{AllByRecursion}
 use Rattle.lru.specs.LruCache.{LruCache}
@@ -14,8 +14,8 @@ abbrev pub value_len_in : Option (Place × Stored) → ℕ
 value_len_in None = 0
 value_len_in (Some p) = length p.1.value
 
--- so many bytes have the values of the entries; each has no more than any value, and there is room for no more than
--- any node has
+-- the values of the entries have `bytes` bytes in all; each has at most the limit of any value, and the
+-- capacity is at most that of any node
 pub record IsWeighed (c : LruCache Place Stored) (bytes : ℕ) : Type 0 where
   pub sum : bytes ≡ bytes_of (entries_of c.entries)
   pub short : AllByRecursion (λ p. length p.1.value ≤ MOST_VALUE_LEN) c.entries

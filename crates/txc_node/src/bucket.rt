@@ -12,7 +12,7 @@ use crate::place::Place;
 use std::alloc::{AllocError, Global};
 use std::marker::Model;
 
-/// Places that are listed together. There is at least one, and one alone takes no memory of its own.
+/// Places that are listed together, at least one. A single place allocates nothing of its own.
 #[derive(Debug, Drop)]
 pub(crate) struct Bucket {
     first: Place,
@@ -29,7 +29,7 @@ impl Model for Bucket {
 }
 
 impl Bucket {
-    /// One place.
+    /// Makes a list of one place.
     pub(crate) fn one(place: Place) -> Bucket
         ensures { result ≡ place ∷ [] }
     {
@@ -39,14 +39,14 @@ impl Bucket {
         }
     }
 
-    /// The places: the first, and the others.
+    /// Returns the first place, and the others.
     pub(crate) fn parts(&self) -> (&Place, &[Place])
         ensures { self.now ≡ result.0.now ∷ result.1.now }
     {
         (&self.first, self.others.as_slice())
     }
 
-    /// Puts a place among them.
+    /// Adds a place. Fails if there is no memory for it; the listed places stay.
     pub(crate) fn add(&mut self, alloc: Global, place: &Place) -> Result<(), AllocError>
         ensures listed { OnOk result (has_place self.new place.now ≡ true) }
         ensures kept { (q : Place) → has_place self.old q ≡ true → has_place self.new q ≡ true }
@@ -57,7 +57,7 @@ impl Bucket {
         Ok(())
     }
 
-    // Drops the first where there are others, and says whether there were.
+    // Drops the first place if there are others, and returns `true` if there were.
     fn drop_first(&mut self) -> bool
         ensures kept { IsTrue result → (q : Place) → (p : Place) → (ps : List Place)
             → self.old ≡ p ∷ ps → has_place ps q ≡ true → has_place self.new q ≡ true }
@@ -72,7 +72,7 @@ impl Bucket {
         }
     }
 
-    /// Takes a place off where there are others, and says whether there are.
+    /// Removes a place if there are others. Returns `false`, and leaves it, if it is the only one.
     pub(crate) fn remove(&mut self, place: &Place) -> bool
         ensures kept { IsTrue result → (q : Place) → equal_places place.now q ≡ false
             → has_place self.old q ≡ true → has_place self.new q ≡ true }
@@ -86,8 +86,8 @@ impl Bucket {
         true
     }
 
-    /// Closes what an event invalidates at these places, and counts it. It keeps those at which still valid
-    /// entries stand, and returns with the count whether there are any.
+    /// Closes the entries at these places that an event invalidates. It keeps the places of still valid
+    /// entries. Returns how many it closed, and whether any place is left.
     pub(crate) fn close(
         &mut self,
         entries: &mut KeyedEntries,
@@ -111,7 +111,7 @@ impl Bucket {
         (count + closed, self.drop_first())
     }
 
-    /// Keeps those at which still valid entries stand, and says whether there are any.
+    /// Keeps the places of still valid entries. Returns `true` if there are any.
     pub(crate) fn clean(&mut self, entries: &KeyedEntries) -> bool
         ensures kept { IsTrue result → (q : Place) → is_live entries.now.entries q ≡ true
             → has_place self.old q ≡ true → has_place self.new q ≡ true }

@@ -1,4 +1,4 @@
-//! A key as the index of the keys has it.
+//! A key in the form that the index of the keys uses.
 ghost use Rattle.std.specs.Prelude.{◌≡◌};
 
 use crate::mixing::{mix, same_call};
@@ -6,7 +6,7 @@ use std::hash::{Hash, Hasher};
 use std::marker::Model;
 use txc_tags::Key;
 
-/// A key that is hashed at once.
+/// A key that is hashed as one number.
 #[derive(Debug, Drop)]
 pub(crate) struct CallKey {
     key: Key,
@@ -21,14 +21,14 @@ impl Model for CallKey {
 }
 
 impl CallKey {
-    /// A copy of that key.
+    /// Makes a copy of the key.
     pub(crate) fn of(key: &Key) -> CallKey
         ensures { result ≡ key.now }
     {
         CallKey { key: key.copy() }
     }
 
-    /// The key.
+    /// Returns the key.
     pub(crate) fn key(&self) -> &Key
         ensures { result.now ≡ self.now }
     {

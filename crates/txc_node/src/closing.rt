@@ -1,4 +1,4 @@
-//! An event that is being applied.
+//! Applying an event to the entries.
 ghost use Rattle.std.specs.Prelude.{◌≡◌, true};
 ghost use Rattle.std.specs.List.{AllByRecursion};
 ghost use Rattle.txc_tags.specs.declared.tag.Rows.{Rows};
@@ -13,8 +13,8 @@ use crate::tag_index::Buckets;
 use txc_stamp::Stamp;
 use txc_tags::TagSet;
 
-/// An event that is being applied: it closes, just below it, the still valid entries that were known below it
-/// and whose tags it matches.
+/// An event that is being applied. It closes, just below its stamp, the still valid entries that were known
+/// below it and have a tag that it matches.
 #[derive(Clone, Copy)]
 pub(crate) struct Closing<'a> {
     pub(crate) stamp: Stamp,
@@ -22,7 +22,7 @@ pub(crate) struct Closing<'a> {
 }
 
 impl Closing<'_> {
-    // Whether it closes what is stored.
+    // Returns `true` if it invalidates the stored entry.
     fn is_stale(&self, stored: &Stored) -> bool
         ensures { result ≡ is_stale self.now.stamp self.now.tags.now stored.now }
     {
@@ -31,7 +31,7 @@ impl Closing<'_> {
             && self.tags.matches(&stored.tags)
     }
 
-    /// Closes what is stored where it invalidates it, and says whether it does.
+    /// Closes the stored entry if it invalidates it, and returns `true` if it does.
     pub(crate) fn close(&self, stored: &mut Stored) -> bool
         ensures stored { stored.new ≡ stored_after self.now.stamp self.now.tags.now stored.old }
         ensures is_stale { result ≡ is_stale self.now.stamp self.now.tags.now stored.old }
@@ -43,7 +43,7 @@ impl Closing<'_> {
         stale
     }
 
-    /// Closes what it invalidates at each of these places, and counts it.
+    /// Closes the entries at these places that it invalidates, and returns how many.
     pub(crate) fn at_each(&self, entries: &mut KeyedEntries, places: &[Place]) -> usize
         ensures closes { Closes self.now.stamp self.now.tags.now entries.old entries.new result }
         ensures spared { AllByRecursion (IsSpared self.now.stamp self.now.tags.now entries.new.entries)
@@ -58,7 +58,7 @@ impl Closing<'_> {
         count
     }
 
-    // Closes what it invalidates at places that are listed together, and counts it.
+    // Closes the entries that it invalidates at places that are listed together, and returns how many.
     fn in_bucket(&self, entries: &mut KeyedEntries, bucket: &Bucket) -> usize
         ensures closes { Closes self.now.stamp self.now.tags.now entries.old entries.new result }
         ensures spared { AllByRecursion (IsSpared self.now.stamp self.now.tags.now entries.new.entries)
@@ -70,7 +70,7 @@ impl Closing<'_> {
         count + self.at_each(entries, others)
     }
 
-    // Closes what it invalidates at the places under the rows that a table has at an index, and counts it.
+    // Closes the entries that it invalidates under the rows at an index of a table, and returns how many.
     fn at_index(&self, entries: &mut KeyedEntries, buckets: &Buckets, i: usize) -> usize
         ensures closes { Closes self.now.stamp self.now.tags.now entries.old entries.new result }
         ensures spared { AreSparedAt self.now.stamp self.now.tags.now entries.new.entries
@@ -82,7 +82,7 @@ impl Closing<'_> {
         }
     }
 
-    /// Closes what it invalidates at the places under all rows of a table, and counts it.
+    /// Closes the entries that it invalidates under all rows of a table, and returns how many.
     pub(crate) fn in_table(&self, entries: &mut KeyedEntries, buckets: &Buckets) -> usize
         ensures closes { Closes self.now.stamp self.now.tags.now entries.old entries.new result }
         ensures spared { (r : Rows) (q : Place) → lists_rows buckets.now.entries r q ≡ true

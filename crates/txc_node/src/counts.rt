@@ -11,21 +11,21 @@ use crate::reply::Reply;
 use std::marker::Model;
 use txc_tags::LAST_FUNCTION;
 
-/// How often something was replied about the calls of one function.
+/// Counts of the replies about the calls of one function.
 #[derive(Clone, Copy, Debug, PartialEq, Eq)]
 pub struct FunctionCounts {
-    /// Lookups, the hits among them too.
+    /// Lookups, including the hits.
     pub lookups: u64,
     pub hits: u64,
     /// Insertions that stored their entry.
     pub stored: u64,
-    /// Insertions where the entry that was there stayed.
+    /// Insertions that kept the old entry.
     pub kept: u64,
     /// Entries that were dropped to make room.
     pub evicted: u64,
 }
 
-// How many functions there are.
+// Number of functions.
 const FUNCTIONS: usize = LAST_FUNCTION as usize + 1;
 
 const NONE: FunctionCounts = FunctionCounts {
@@ -102,7 +102,7 @@ fn add_to(functions: &mut [FunctionCounts; FUNCTIONS], function: Option<u8>, mor
     }
 }
 
-// What a reply counts for the function whose call was looked up or inserted.
+// Counts of one reply for the function whose call was looked up or inserted.
 fn own_counts<H>(reply: &Reply<H>) -> FunctionCounts
     ensures { result ≡ own_counts reply.now }
 {
@@ -119,7 +119,7 @@ fn own_counts<H>(reply: &Reply<H>) -> FunctionCounts
     }
 }
 
-// The function of the entry that was dropped to make room, if one was.
+// Returns the function of the entry that was dropped to make room, if one was.
 fn dropped_function<H>(reply: &Reply<H>) -> Option<u8>
     ensures value { result ≡ dropped_function reply.now }
     ensures bound { IfSome result (λ f. f ≤ LAST_FUNCTION) }
@@ -133,7 +133,7 @@ fn dropped_function<H>(reply: &Reply<H>) -> Option<u8>
     }
 }
 
-// How many events the reply is to, and how many entries were closed, swept and trimmed.
+// Returns how many events the reply answers, and how many entries were closed, swept and trimmed.
 fn totals<H>(reply: &Reply<H>) -> (u64, usize, usize, usize)
     ensures events { result.0 ≡ events_by reply.now }
     ensures closed { result.1 ≡ closed_by reply.now }
@@ -150,7 +150,7 @@ fn totals<H>(reply: &Reply<H>) -> (u64, usize, usize, usize)
 }
 
 impl Counts {
-    /// No reply was counted.
+    /// Makes counts of no replies.
     pub fn new() -> Counts
         ensures functions { (f : ℕ) → counts_of result.functions f ≡ none_counted }
         ensures replies { result.replies ≡ 0 }
@@ -170,7 +170,7 @@ impl Counts {
         }
     }
 
-    /// A second one that shows the same. It takes no memory.
+    /// Returns a copy. Does not allocate.
     pub fn again(&self) -> Counts
         ensures { result ≡ self.now }
     {
@@ -184,7 +184,7 @@ impl Counts {
         }
     }
 
-    /// Counts a reply, to a step of that function, if it is of one. It takes no memory.
+    /// Counts the reply to a step of that function, or of none. Does not allocate.
     pub fn count<H>(&mut self, function: Option<u8>, reply: &Reply<H>)
         requires function { IfSome function (λ f. f ≤ LAST_FUNCTION) }
         requires room { self.old.replies + 1 < 2 ^ 64 }
@@ -206,7 +206,7 @@ impl Counts {
         self.trimmed += trimmed as u128;
     }
 
-    /// Counts what a step of a history was answered. It takes no memory.
+    /// Counts the reply of a step of a history. Does not allocate.
     pub fn add(&mut self, step: &Record)
         requires room { self.old.replies + 1 < 2 ^ 64 }
         ensures functions { (f : ℕ) → counts_of self.new.functions f
@@ -223,7 +223,7 @@ impl Counts {
         self.count(step.op.function(), &step.reply);
     }
 
-    /// The counts of a function.
+    /// Returns the counts of a function.
     pub fn of(&self, function: u8) -> FunctionCounts
         requires { function ≤ LAST_FUNCTION }
         ensures { result ≡ counts_of self.now.functions function }
@@ -231,21 +231,21 @@ impl Counts {
         self.functions[function as usize]
     }
 
-    /// How many replies to events were counted.
+    /// Returns how many replies to events were counted.
     pub fn events(&self) -> u64
         ensures { result ≡ self.now.events }
     {
         self.events
     }
 
-    /// How many entries the events closed.
+    /// Returns how many entries the events closed.
     pub fn closed(&self) -> u128
         ensures { result ≡ self.now.closed }
     {
         self.closed
     }
 
-    /// How many entries sweeps dropped.
+    /// Returns how many entries sweeps dropped.
     pub fn swept(&self) -> u128
         ensures { result ≡ self.now.swept }
     {

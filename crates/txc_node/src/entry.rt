@@ -8,34 +8,34 @@ use thiserror::Error;
 use txc_stamp::{Reach, Stamp};
 use txc_tags::{Key, TagSet};
 
-/// Why there is no such entry.
+/// Errors of making an entry.
 #[derive(Clone, Copy, Debug, PartialEq, Eq, Error)]
 pub enum EntryError {
-    /// The result is known to hold up to a stamp below its first one.
-    #[error("the last stamp known is below the first")]
+    /// The last known stamp is below the first.
+    #[error("the last known stamp of the entry is below its first")]
     BadReach,
     /// The value has more than [`MAX_VALUE_LEN`] bytes.
     #[error("the value is longer than {MAX_VALUE_LEN} bytes")]
     ValueTooLong,
 }
 
-/// A result that is cached.
+/// A cached result.
 #[derive(Debug, Drop)]
 pub struct Entry {
-    /// The call whose result it is.
+    /// The call that the result belongs to.
     pub key: Key,
     /// The result.
     pub value: Value,
-    /// The stamps on which it is known to hold, and whether it may hold on.
+    /// Its validity interval: the stamps on which it is known to hold, and whether it is still valid.
     pub reach: Reach,
-    /// What it depends on.
+    /// The tags of the rows that it depends on.
     pub tags: TagSet,
 }
 
 impl Entry {
-    /// A result that holds from `lo` to `known`, and on from there where it is `still` valid, until an
-    /// event matches one of its tags. The value has at most [`MAX_VALUE_LEN`] bytes. A reach that is empty is reported
-    /// before a value that is too long. It takes no memory.
+    /// Makes an entry of a result that holds from `lo` to `known`, and, if it is `still` valid, until an event
+    /// matches one of its tags. Fails if `known` is below `lo`, or else if the value has more than
+    /// [`MAX_VALUE_LEN`] bytes. Does not allocate.
     pub fn new(
         key: Key,
         value: Vec<u8>,
@@ -69,8 +69,8 @@ impl Entry {
         })
     }
 
-    /// Makes an entry as [`Entry::new`] does, with a value of at most `most` bytes. Fails if a node refuses such an
-    /// insertion whatever it holds, with that refusal.
+    /// Makes an entry as [`Entry::new`] does, with a value of at most `most` bytes. Fails with the reply that a
+    /// node gives to such an insertion in any state: the reach is empty, or else the value is too long.
     pub fn up_to(
         most: usize,
         key: Key,
@@ -106,7 +106,7 @@ impl Entry {
         })
     }
 
-    /// An equal entry.
+    /// Returns an equal entry. Fails only if memory cannot be allocated.
     pub fn copy(&self, alloc: Global) -> Result<Entry, AllocError>
         ensures { IfOk result (λ e. e ≡ self.now) }
     {

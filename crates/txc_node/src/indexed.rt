@@ -1,4 +1,4 @@
-//! The entries of a node, with what finds them.
+//! The entries of a node, with the indexes that find them.
 ghost use Rattle.std.specs.Prelude.{◌≡◌, ◌∷◌, [], ◌-◌, ◌≤◌, length, map, take, not, true, false, OnOk, OnErr, IfOk, IfErr, IfSome, Some, slice_get};
 ghost use Rattle.std.specs.List.{find, filter, count_by};
 ghost use Rattle.std.specs.NonZero.{non_zero_usize_get};
@@ -25,7 +25,7 @@ use std::num::NonZeroUsize;
 use txc_stamp::{Reach, Stamp};
 use txc_tags::{Key, TagSet};
 
-/// At most so many entries, the most recently used first, that are found by their key and by their tags.
+/// Up to `capacity` entries, the most recently used first, found by their key and by their tags.
 #[derive(Drop)]
 pub(crate) struct IndexedEntries {
     entries: KeyedEntries,
@@ -43,13 +43,13 @@ impl Model for IndexedEntries {
 }
 
 impl fmt::Debug for IndexedEntries {
-    // The entries alone, since the indexes are made of them.
+    // Shows the entries only, since the indexes follow from them.
     fn fmt<W: fmt::Write>(&self, f: &mut fmt::Formatter<W>) -> fmt::Result {
         self.entries.fmt(f)
     }
 }
 
-// Lists what is still valid under its tags.
+// Lists a still valid entry under its tags.
 fn list_still(index: &mut TagIndex, place: &Place, stored: &Stored) -> Result<(), AllocError>
     ensures listed { OnOk result (IsListed index.new.tables.items place.now stored.now) }
     ensures kept { KeepsListed (λ t q. Unit {0}) index.old.tables.items index.new.tables.items }
@@ -60,7 +60,7 @@ fn list_still(index: &mut TagIndex, place: &Place, stored: &Stored) -> Result<()
     Ok(())
 }
 
-// Takes a place off those under each of these tags that the entry which stands there has not.
+// Unlists a place under each of these tags that the entry stored there does not have.
 fn unlist_left(entries: &KeyedEntries, index: &mut TagIndex, place: &Place, tags: &TagSet)
     ensures { IndexesTags index.old.tables.items entries.now.entries
         → IndexesTags index.new.tables.items entries.now.entries }
@@ -72,7 +72,7 @@ fn unlist_left(entries: &KeyedEntries, index: &mut TagIndex, place: &Place, tags
     }
 }
 
-// The same for an entry in whose stead another went in.
+// Unlists a replaced entry under the tags that the new one does not have.
 fn unlist_replaced(entries: &KeyedEntries, index: &mut TagIndex, gone: &Option<Entry>)
     ensures { IndexesTags index.old.tables.items entries.now.entries
         → IndexesTags index.new.tables.items entries.now.entries }
@@ -83,7 +83,7 @@ fn unlist_replaced(entries: &KeyedEntries, index: &mut TagIndex, gone: &Option<E
     }
 }
 
-// Takes an entry for which there was no room off those under its tags: none stands at its place.
+// Unlists an entry for which there was no room: its place is empty.
 fn unlist_evicted(index: &mut TagIndex, evicted: &Option<Entry>)
     ensures { KeepsListed (λ t q. IfSome evicted.now (λ e. equal_places (place_of e) q ≡ false))
         index.old.tables.items index.new.tables.items }
@@ -94,7 +94,7 @@ fn unlist_evicted(index: &mut TagIndex, evicted: &Option<Entry>)
     }
 }
 
-// A new entry first, before all entries at other places, of which as many stay as there is room for.
+// Inserts a new entry at the front. Of the entries at other places, those that the capacity allows stay.
 fn put(
     entries: &mut KeyedEntries,
     index: &mut TagIndex,
@@ -142,7 +142,7 @@ fn put(
 }
 
 impl IndexedEntries {
-    /// No entries, and room for `capacity`.
+    /// Makes an empty list with room for `capacity` entries.
     pub(crate) fn new(alloc: Global, capacity: NonZeroUsize) -> Result<IndexedEntries, AllocError>
         requires { non_zero_usize_get capacity ≤ MOST_CAPACITY }
         ensures { IfOk result (λ x. x
@@ -153,7 +153,7 @@ impl IndexedEntries {
         Ok(IndexedEntries { entries, tags })
     }
 
-    /// How many there are.
+    /// Returns how many entries there are.
     pub(crate) fn len(&self) -> usize
         ensures { result ≡ length self.now.entries }
     {
@@ -167,7 +167,7 @@ impl IndexedEntries {
         self.entries.bytes()
     }
 
-    /// The entries alone, of a node that ends.
+    /// Returns the entries of a node that ends, without the indexes.
     pub(crate) fn leave(self) -> Leaving
         ensures { result ≡ self.entries }
     {
@@ -175,7 +175,7 @@ impl IndexedEntries {
         entries.leave()
     }
 
-    /// The entries by themselves.
+    /// Returns the entries with the index of their keys.
     pub(crate) fn keyed(&self) -> &KeyedEntries
         ensures { result.now ≡ self.now }
     {
@@ -193,8 +193,8 @@ impl IndexedEntries {
         self.entries.bring_first(key, found);
     }
 
-    /// A new entry first, in its new reach, before all entries at other places, of which as many stay as
-    /// there is room for.
+    /// Inserts a new entry at the front, in its new reach, and drops the last one if the capacity is exceeded.
+    /// Returns the entry that was dropped. Fails, and returns the new entry, if there is no memory for it.
     pub(crate) fn put(
         &mut self,
         found: &Option<Found>,
@@ -224,7 +224,7 @@ impl IndexedEntries {
         }
     }
 
-    /// Closes the entries that an event invalidates just below it, and counts them.
+    /// Closes the entries that an event invalidates just below its stamp, and returns how many.
     pub(crate) fn invalidate(&mut self, stamp: Stamp, tags: &TagSet) -> usize
         ensures entries { self.new.entries ≡ map (entry_after stamp tags.now) self.old.entries }
         ensures capacity { self.new.capacity ≡ self.old.capacity }
@@ -236,7 +236,7 @@ impl IndexedEntries {
         count
     }
 
-    /// Drops the entries whose span ends at the horizon or before it, and counts them.
+    /// Drops the entries whose span ends at the horizon or before it, and returns how many.
     pub(crate) fn drop_ended(&mut self, processed: Stamp, horizon: Stamp) -> usize
         ensures entries { self.new.entries
             ≡ filter (λ e. not (has_ended processed horizon e)) self.old.entries }
@@ -259,8 +259,8 @@ impl IndexedEntries {
         unlist_evicted(&mut self.tags, &last);
     }
 
-    /// Keeps the longest prefix of the entries whose values have at most `most` bytes in all. Returns how many it
-    /// dropped.
+    /// Keeps the longest prefix of the entries whose values have at most `most` bytes in all. Returns the
+    /// number of entries dropped.
     pub(crate) fn trim(&mut self, most: usize) -> usize
         ensures entries { self.new.entries ≡ longest_within most self.old.entries }
         ensures capacity { self.new.capacity ≡ self.old.capacity }

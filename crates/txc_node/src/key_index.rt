@@ -13,7 +13,7 @@ use std::alloc::{AllocError, Global};
 use txc_stamp::Reach;
 use txc_tags::Key;
 
-// Keeps of the reaches at an index those that a sweep leaves, and drops the key where there are none.
+// Keeps the reaches that a sweep leaves at an index, and drops the key if none is left.
 fn keep_at(versions: &mut IndexMap<CallKey, Versions>, i: usize, sweep: &Sweep)
     ensures lasting { (k : Call) → lasting sweep.now.processed sweep.now.horizon (listed versions.new.entries k)
         ≡ lasting sweep.now.processed sweep.now.horizon (listed versions.old.entries k) }
@@ -29,7 +29,7 @@ fn keep_at(versions: &mut IndexMap<CallKey, Versions>, i: usize, sweep: &Sweep)
     }
 }
 
-/// Of each key the reaches of its entries, the most recently used first.
+/// The reaches of the entries of each key, the most recently used first.
 #[derive(Debug, Drop)]
 pub(crate) struct KeyIndex {
     alloc: Global,
@@ -37,7 +37,7 @@ pub(crate) struct KeyIndex {
 }
 
 impl KeyIndex {
-    /// The index of no entries.
+    /// Makes an empty index.
     pub(crate) fn new(alloc: Global) -> KeyIndex
         ensures { result.versions.entries ≡ [] }
     {
@@ -47,7 +47,7 @@ impl KeyIndex {
         }
     }
 
-    /// The reaches of a key's entries, if there are any.
+    /// Returns the reaches of a key's entries, if it has any.
     pub(crate) fn get(&self, key: &Key) -> Option<&Versions>
         ensures { MatchOption result (listed self.now.versions.entries key.now ≡ [])
             (λ v. listed self.now.versions.entries key.now ≡ v.now) }
@@ -56,7 +56,7 @@ impl KeyIndex {
         self.versions.get(&call)
     }
 
-    /// Puts a reach first among those of its key.
+    /// Puts a reach first among those of its key. Fails, and changes nothing, if there is no memory for it.
     pub(crate) fn add(&mut self, key: &Key, reach: Reach) -> Result<(), AllocError>
         ensures { let rs = listed self.old.versions.entries key.now in
             Relists key.now (if is_ok result then reach ∷ rs else rs)
@@ -73,7 +73,7 @@ impl KeyIndex {
         }
     }
 
-    /// Puts a reach first among those of its key, in the stead of the one at a place.
+    /// Replaces the reach at a place of its key by this one, which becomes the first.
     pub(crate) fn bring_first(&mut self, key: &Key, at: usize, reach: Reach)
         requires { at < length (listed self.old.versions.entries key.now) }
         ensures { Relists key.now (reach ∷ remove (listed self.old.versions.entries key.now) at)
@@ -85,7 +85,7 @@ impl KeyIndex {
         }
     }
 
-    /// Changes the reach of a key that begins where this one does.
+    /// Replaces the reach of a key that begins at the same stamp as this one.
     pub(crate) fn set(&mut self, key: &Key, reach: Reach)
         ensures { Relists key.now (map (in_stead reach) (listed self.old.versions.entries key.now))
             self.old.versions.entries self.new.versions.entries }
@@ -133,7 +133,7 @@ impl KeyIndex {
         ensures { (k : Call) → listed self.new.versions.entries k
             ≡ lasting sweep.now.processed sweep.now.horizon (listed self.old.versions.entries k) }
     {
-        // From the last on, since the last takes the place of one that is dropped.
+        // It begins with the last key, since the last one moves to the place of one that is dropped.
         let len = self.versions.len();
         for n in 0..len {
             keep_at(&mut self.versions, len - 1 - n, sweep);

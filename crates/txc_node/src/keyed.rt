@@ -1,4 +1,4 @@
-//! The entries of a node at their places, and by their keys.
+//! The entries of a node by their place and by their key.
 ghost use Rattle.std.specs.Prelude.{List, ◌≡◌, ◌-◌, ◌≤◌, ◌∷◌, [], take, length, not, remove, None, Some, OnOk, OnErr, IfOk, IfErr, slice_get, option_copied};
 ghost use Rattle.std.specs.List.{find, filter};
 ghost use Rattle.std.specs.Option.{option_map};
@@ -28,7 +28,7 @@ use std::num::NonZeroUsize;
 use txc_stamp::{Reach, Stamp};
 use txc_tags::Key;
 
-/// At most so many entries, the most recently used first, that are found by their place and by their key.
+/// Up to `capacity` entries, the most recently used first, found by their place and by their key.
 #[derive(Drop)]
 pub(crate) struct KeyedEntries {
     cache: WeighedEntries,
@@ -46,7 +46,7 @@ impl Model for KeyedEntries {
 }
 
 impl fmt::Debug for KeyedEntries {
-    // The entries alone, since the index is made of them.
+    // Shows the entries only, since the index follows from them.
     fn fmt<W: fmt::Write>(&self, f: &mut fmt::Formatter<W>) -> fmt::Result {
         self.cache.fmt(f)
     }
@@ -64,7 +64,7 @@ fn bring_found(keys: &mut KeyIndex, key: &Key, found: Found)
 }
 
 impl KeyedEntries {
-    /// No entries, and room for `capacity`.
+    /// Makes an empty list with room for `capacity` entries.
     pub(crate) fn new(alloc: Global, capacity: NonZeroUsize) -> Result<KeyedEntries, AllocError>
         requires { non_zero_usize_get capacity ≤ MOST_CAPACITY }
         ensures { IfOk result (λ x. x
@@ -77,7 +77,7 @@ impl KeyedEntries {
         })
     }
 
-    /// How many there are.
+    /// Returns how many entries there are.
     pub(crate) fn len(&self) -> usize
         ensures len { result ≡ length self.now.entries }
         ensures apart { HoldsApart self.now }
@@ -92,7 +92,7 @@ impl KeyedEntries {
         self.cache.bytes()
     }
 
-    /// The entries alone, of a node that ends.
+    /// Returns the entries of a node that ends, without the index.
     pub(crate) fn leave(self) -> Leaving
         ensures { result ≡ self.entries }
     {
@@ -100,8 +100,8 @@ impl KeyedEntries {
         Leaving { cache }
     }
 
-    /// The entry of the key whose span meets the stamps from `lo` to `hi`, and that lasts longest; and how
-    /// many entries were looked at.
+    /// Returns the entry of the key whose span meets the stamps from `lo` to `hi` and that lasts longest, and
+    /// how many entries were looked at.
     pub(crate) fn best(
         &self,
         processed: Stamp,
@@ -119,7 +119,7 @@ impl KeyedEntries {
         }
     }
 
-    /// The entry that has the key and the first stamp of another.
+    /// Returns the entry that has the key and the first stamp of this one.
     pub(crate) fn standing(&self, e: &Entry) -> Option<Found>
         ensures { IsFound (entries_under e.now.key self.now.entries)
             (find (λ o. same_place o e.now) self.now.entries) result }
@@ -130,14 +130,14 @@ impl KeyedEntries {
         }
     }
 
-    /// The entry at a place.
+    /// Returns the entry at a place.
     pub(crate) fn get(&self, place: &Place) -> Option<&Stored>
         ensures { option_copied result ≡ option_map stored_of (entry_at self.now.entries place.now) }
     {
         self.cache.peek(place)
     }
 
-    /// The entry that was used last.
+    /// Returns the most recently used entry.
     pub(crate) fn first(&self) -> Option<&Stored>
         ensures { option_copied result ≡ option_map stored_of (slice_get self.now.entries 0) }
     {
@@ -147,8 +147,8 @@ impl KeyedEntries {
         }
     }
 
-    /// Closes the entry at a place just below an event that invalidates it, and counts it. Returns with the
-    /// count whether a still valid entry stands there now.
+    /// Closes the entry at a place just below an event that invalidates it. Returns how many it closed, 0 or 1,
+    /// and whether the entry there is still valid now.
     pub(crate) fn close_at(&mut self, place: &Place, closing: &Closing<'_>) -> (usize, bool)
         ensures closes { Closes closing.now.stamp closing.now.tags.now self.old self.new result.0 }
         ensures spared { IsSpared closing.now.stamp closing.now.tags.now self.new.entries place.now }
@@ -177,7 +177,7 @@ impl KeyedEntries {
         bring_found(&mut self.keys, key, found);
     }
 
-    /// Drops what a sweep drops, and takes that off the index of the tags.
+    /// Drops the entries that a sweep drops, and unlists them in the index of the tags.
     pub(crate) fn drop_ended(&mut self, index: &mut TagIndex, sweep: &Sweep)
         requires { IndexesTags index.old.tables.items self.old.entries }
         ensures entries { self.new.entries
@@ -189,7 +189,8 @@ impl KeyedEntries {
         self.keys.keep_lasting(sweep);
     }
 
-    /// A new entry first, at a place where none stands. Returns the last one where there is no room for it.
+    /// Inserts a new entry at the front, at an empty place. Returns the entry that was dropped if there was no
+    /// room. Fails, and returns the new entry, if there is no memory for it.
     pub(crate) fn add(
         &mut self,
         place: Place,
@@ -227,7 +228,7 @@ impl KeyedEntries {
         }
     }
 
-    /// Takes out the least recently used entry.
+    /// Removes the least recently used entry, and returns it.
     pub(crate) fn drop_last(&mut self) -> Option<Entry>
         ensures last { result ≡ slice_get self.old.entries (length self.old.entries - 1) }
         ensures entries { self.new.entries ≡ take (length self.old.entries - 1) self.old.entries }
@@ -242,8 +243,8 @@ impl KeyedEntries {
         }
     }
 
-    /// A new entry first, in the stead of the one at its place, that stands there among those of its key.
-    /// Returns that one.
+    /// Replaces the entry at this place by a new one, which becomes the most recently used. Returns the old
+    /// one.
     pub(crate) fn replace(&mut self, at: usize, place: Place, stored: Stored) -> Option<Entry>
         requires placed { place ≡ place_of (entry_of (place, stored)) }
         requires there { StandsUnder (entry_of (place, stored)) self.old.entries at }
@@ -256,7 +257,7 @@ impl KeyedEntries {
     }
 }
 
-// Which of these lasts longest of those whose span meets the stamps from `lo` to `hi`.
+// Returns which of these lasts longest among those whose span meets the stamps from `lo` to `hi`.
 fn best_of(versions: &Versions, processed: Stamp, lo: Stamp, hi: Stamp) -> Option<Found>
     ensures { (key : Call) (es : List Entry) → AreOf key es versions.now
         → IsFound es (find (is_best processed key lo hi es) es) result }
@@ -270,7 +271,7 @@ fn best_of(versions: &Versions, processed: Stamp, lo: Stamp, hi: Stamp) -> Optio
     }
 }
 
-// Which of these begins at a stamp.
+// Returns which of these begins at a stamp.
 fn begins_at(versions: &Versions, lo: Stamp) -> Option<Found>
     ensures { (e : Entry) (es : List Entry) → AreOf e.key es versions.now → lo ≡ e.reach.lo
         → IsFound es (find (λ o. same_place o e) es) result }

@@ -23,14 +23,14 @@ impl Model for Leaving {
 }
 
 impl Leaving {
-    /// How many are left.
+    /// Returns how many entries are left.
     pub fn len(&self) -> usize
         ensures { result ≡ length self.now }
     {
         self.cache.len()
     }
 
-    /// Takes out the least recently used one. It takes no memory.
+    /// Removes the least recently used entry, and returns it. Does not allocate.
     pub fn next(&mut self) -> Option<Entry>
         ensures { MatchOption result
             ((self.old ≡ []) × (self.new ≡ []))

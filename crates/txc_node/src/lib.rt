@@ -1,14 +1,13 @@
-//! The versioned cache of one node, after Ports, Clements, Zhang, Madden and Liskov, "Transactional
-//! Consistency and Automatic Management in an Application Data Cache" (OSDI 2010). Each [`Entry`] is the
-//! result of a call with the stamps on which it holds; an event of the database closes the entries whose
-//! tags it matches.
+//! The versioned cache of one node, after Ports, Clements, Zhang, Madden and Liskov, "Transactional Consistency
+//! and Automatic Management in an Application Data Cache" (OSDI 2010). Each [`Entry`] is the result of a call
+//! with its validity interval; an event of the database closes, that is invalidates, the entries whose tags it
+//! matches.
 //!
 //! A [`NodeCore`] is one list of entries, the most recently used first, the stamp of the last event that it
-//! took, and the tags of the last events. It changes by five steps: [`NodeCore::lookup`],
-//! [`NodeCore::insert`], [`NodeCore::event`], [`NodeCore::sweep`] and [`NodeCore::trim`]; an [`Op`] names a
-//! step, and a [`Reply`] is what it is answered. The capacity counts entries, and a trim counts the bytes of
-//! their values. The orders among entries, the ties, the replay of recent events at an insertion, and the trim
-//! are this project's own.
+//! took, and the tags of the last events. It changes by five steps: [`NodeCore::lookup`], [`NodeCore::insert`],
+//! [`NodeCore::event`], [`NodeCore::sweep`] and [`NodeCore::trim`]; an [`Op`] names a step, and a [`Reply`] is
+//! its result. The capacity counts entries, and a trim counts the bytes of their values. The orders among
+//! entries, the ties, the replay of recent events at an insertion, and the trim are this project's own.
 #![tactic(auto)]
 
 mod bucket;

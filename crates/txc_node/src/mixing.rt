@@ -1,4 +1,4 @@
-//! Calls by their numbers, in as few steps as there are.
+//! Hashing and comparing calls by their numbers, in few machine steps.
 ghost use Rattle.std.specs.Prelude.{◌≡◌};
 ghost use Rattle.std.specs.List.{fold};
 ghost use Rattle.std.specs.Str.{bytes_eq};
@@ -10,14 +10,14 @@ use txc_tags::Key;
 // An odd number, whose products differ in all their bits.
 const MIX: u64 = 0xd6e8_feb8_6659_fd93;
 
-// One number more.
+// Mixes one more number in.
 fn mixed(word: u64, number: u32) -> u64
     ensures { result ≡ mixed word number }
 {
     word.wrapping_mul(MIX).wrapping_add(u64::from(number))
 }
 
-/// The word with these arguments, so that a hasher takes them all at once.
+/// Mixes the arguments into the word, so that a hasher takes them as one number.
 pub(crate) fn mix(word: u64, args: &[u32]) -> u64
     ensures { result ≡ fold mixed word args.now }
 {
@@ -27,7 +27,7 @@ pub(crate) fn mix(word: u64, args: &[u32]) -> u64
     }
 }
 
-// Whether the arguments are the same. There are few, so that each is compared by itself.
+// Returns `true` if the arguments are the same. There are at most four, so each is compared by itself.
 fn same_args(a: &[u32], b: &[u32]) -> bool
     ensures { result ≡ bytes_eq a.now b.now }
 {
@@ -38,7 +38,7 @@ fn same_args(a: &[u32], b: &[u32]) -> bool
     }
 }
 
-/// Whether the calls are the same.
+/// Returns `true` if the calls are the same.
 pub(crate) fn same_call(a: &Key, b: &Key) -> bool
     ensures { result ≡ same_call a.now b.now }
 {

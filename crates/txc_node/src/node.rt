@@ -9,6 +9,8 @@ ghost use Rattle.txc_node.specs.Cache.{ends_no_earlier, shown_of, empty_cache, e
 ghost use Rattle.txc_node.specs.Hit.{seen};
 ghost use Rattle.txc_node.specs.Indexed.{IsFound, IsSearchOf, shown_as};
 
+mod texts;
+
 use crate::entry::Entry;
 use crate::hit::Hit;
 use crate::indexed::IndexedEntries;
@@ -26,40 +28,40 @@ use thiserror::Error;
 use txc_stamp::{Reach, Stamp};
 use txc_tags::{Key, TagSet};
 
-/// The most entries that the settings of a node may ask for.
+/// The greatest capacity that the settings of a node may ask for.
 pub const MAX_CAPACITY: usize = 65_536;
 
-/// The most entries that any node may be made for.
+/// The greatest capacity of any node, in entries.
 pub const MOST_CAPACITY: usize = 1_048_576;
 
-/// The most events whose tags a node may be made to keep.
+/// The greatest number of events whose tags a node may be made to store.
 pub const MAX_RECENT: usize = 4_096;
 
-/// The stamps asked for end before they begin.
+/// The range of stamps of a lookup is empty: it ends before it begins.
 #[derive(Clone, Copy, Debug, PartialEq, Eq, Error)]
-#[error("the range of stamps is empty")]
+#[error("the range of stamps ends before it begins")]
 pub struct EmptyRange;
 
 /// The event is not the one after the processed stamp.
 #[derive(Clone, Copy, Debug, PartialEq, Eq, Error)]
-#[error("the event is out of order")]
+#[error("the event does not directly follow the last one, of stamp {processed}")]
 pub struct OutOfOrder {
-    /// The stamp of the last event that was taken.
+    /// The stamp of the last event that the node took.
     pub processed: Stamp,
 }
 
-/// What an insertion did.
+/// Result of an insertion.
 #[derive(Debug, Drop)]
 pub enum Inserted {
-    /// The entry stands at the front.
+    /// The entry was stored, at the front.
     Stored {
         /// Its reach after the replay, known up to the last stamp of its span.
         reach: Reach,
-        /// The entry that was dropped to make room for it.
+        /// The entry that was dropped to make room for it, if one was.
         evicted: Option<Entry>,
     },
-    /// An entry with its key and first stamp is there that ends no earlier, and stays. The new one comes
-    /// back.
+    /// The node has an entry with the same key and first stamp that ends no earlier, and keeps it. Returns the
+    /// new entry.
     Kept(Entry),
 }
 
@@ -71,7 +73,7 @@ pub struct NodeCore {
     recent: HeapCircularBuffer<TagSet>,
 }
 
-// Not derived: a derived one is proved again in each crate above.
+// Not derived, since a derived one would be proved again in each crate above.
 impl Drop for NodeCore {
     fn drop(self) {
         let NodeCore {
@@ -104,7 +106,7 @@ impl Model for NodeCore {
     }) };
 }
 
-// What is lent of an entry.
+// Lends the parts of an entry.
 fn hit_of(stored: Option<&Stored>, processed: Stamp) -> Option<Hit<'_>>
     ensures { option_map seen result ≡ option_map (shown_as processed) (option_copied stored.entry) }
 {
@@ -119,7 +121,7 @@ fn hit_of(stored: Option<&Stored>, processed: Stamp) -> Option<Hit<'_>>
     })
 }
 
-// The hit of the entry that was used last, or none.
+// Returns the hit of the most recently used entry, if there is one.
 fn hit_first(entries: &IndexedEntries, processed: Stamp, is_hit: bool) -> Option<Hit<'_>>
     ensures { option_map seen result
         ≡ (if is_hit then option_map (shown_of processed) (slice_get entries.now.entries 0) else None) }
@@ -130,7 +132,7 @@ fn hit_first(entries: &IndexedEntries, processed: Stamp, is_hit: bool) -> Option
     hit_of(entries.keyed().first(), processed)
 }
 
-// Whether there is a reach that ends no earlier than a new one.
+// Returns `true` if there is a reach that ends no earlier than a new one.
 fn ends_no_earlier(found: &Option<Found>, reach: Reach, processed: Stamp) -> bool
     ensures { (e : Entry) (es : List Entry) (o : Option Entry) → IsFound es o found.now
         → result ≡ ends_no_earlier processed (record e { reach = reach }) o }
@@ -141,7 +143,7 @@ fn ends_no_earlier(found: &Option<Found>, reach: Reach, processed: Stamp) -> boo
     }
 }
 
-// Whether stamps begin before they end.
+// Fails if the last stamp is below the first.
 fn check_range(lo: Stamp, hi: Stamp) -> Result<(), EmptyRange>
     ensures only_if { OnOk result (lo ≤ hi) }
     ensures refused { OnErr result (hi < lo) }
@@ -153,8 +155,9 @@ fn check_range(lo: Stamp, hi: Stamp) -> Result<(), EmptyRange>
 }
 
 impl NodeCore {
-    /// An empty node for at most `capacity` entries, that keeps the tags of the last `recent` events. The
-    /// room of these tags is taken now, so that no event needs memory.
+    /// Makes an empty node for at most `capacity` entries, which stores the tags of the last `recent` events.
+    /// It allocates the space for these tags now, so that no event allocates. Fails only if memory cannot be
+    /// allocated.
     pub fn new(alloc: Global, capacity: usize, recent: usize) -> Result<NodeCore, AllocError>
         requires capacity { (1 ≤ capacity) × (capacity ≤ MOST_CAPACITY) }
         requires recent { (1 ≤ recent) × (recent ≤ MAX_RECENT) }
@@ -163,8 +166,9 @@ impl NodeCore {
         NodeCore::beginning_at(alloc, capacity, recent, Stamp::ZERO)
     }
 
-    /// An empty node as if it had taken the events up to that stamp. An entry that is not known from there on is
-    /// closed when it is inserted, since what came in between is not known.
+    /// Makes an empty node as if it had taken the events up to stamp `from`. An inserted entry that is known
+    /// only below `from` is closed at its last known stamp, since the node does not have the events in between.
+    /// Fails only if memory cannot be allocated.
     pub fn beginning_at(
         alloc: Global,
         capacity: usize,
@@ -185,7 +189,7 @@ impl NodeCore {
         })
     }
 
-    /// Its entries, once it is not wanted any more. It takes no memory.
+    /// Returns the entries of a node that is no longer used. Does not allocate.
     pub fn leave(self) -> Leaving
         ensures { result ≡ self.entries }
     {
@@ -197,14 +201,14 @@ impl NodeCore {
         entries.leave()
     }
 
-    /// The stamp of the last event that was taken.
+    /// Returns the stamp of the last event that it took.
     pub fn processed(&self) -> Stamp
         ensures { result ≡ self.now.processed }
     {
         self.processed
     }
 
-    /// How many entries it holds.
+    /// Returns how many entries it has.
     pub fn len(&self) -> usize
         ensures { result ≡ length self.now.entries }
     {
@@ -218,16 +222,16 @@ impl NodeCore {
         self.entries.bytes()
     }
 
-    /// Whether it holds no entry.
+    /// Returns `true` if it has no entry.
     pub fn is_empty(&self) -> bool
         ensures { IsTrue result ↔ (self.now.entries ≡ []) }
     {
         self.len() == 0
     }
 
-    /// Searches for the entry that [`NodeCore::lookup`] lends, and changes nothing: it looks at those of the key,
-    /// however many others there are. [`NodeCore::hit`] lends it then, and [`NodeCore::mark_used`] does the rest of the
-    /// lookup. It takes no memory.
+    /// Searches for the entry that [`NodeCore::lookup`] would lend, and changes nothing. It looks only at the
+    /// entries of the key. [`NodeCore::hit`] then lends the entry, and [`NodeCore::mark_used`] completes the
+    /// lookup. Fails if `hi` is below `lo`. Does not allocate.
     pub fn search(&self, key: &Key, lo: Stamp, hi: Stamp) -> Result<Search, EmptyRange>
         ensures only_if { OnOk result (lo ≤ hi) }
         ensures refused { OnErr result (hi < lo) }
@@ -244,7 +248,7 @@ impl NodeCore {
         })
     }
 
-    /// What [`NodeCore::lookup`] lends, after its search. It takes no memory.
+    /// Lends the entry that the search found, as [`NodeCore::lookup`] does. Does not allocate.
     pub fn hit(&self, key: &Key, search: &Search) -> Option<Hit<'_>>
         requires { IsSearchOf self.now key.now search.now }
         ensures { option_map seen result ≡ lookup_answer self.now key.now search.now.lo search.now.hi }
@@ -256,8 +260,8 @@ impl NodeCore {
         hit_of(self.entries.keyed().get(&place), self.processed)
     }
 
-    /// Makes what a search found the most recently used, as [`NodeCore::lookup`] does after its search. It
-    /// takes no memory.
+    /// Makes the entry that the search found the most recently used, as [`NodeCore::lookup`] does. Does not
+    /// allocate.
     pub fn mark_used(&mut self, key: &Key, search: &Search)
         requires { IsSearchOf self.old key.now search.now }
         ensures { self.new ≡ after_lookup self.old key.now search.now.lo search.now.hi }
@@ -267,7 +271,7 @@ impl NodeCore {
         }
     }
 
-    // Looks an entry up and moves it to the front, and says whether there is one.
+    // Looks an entry up and moves it to the front. Returns `true` if there is one.
     fn touch(&mut self, key: &Key, lo: Stamp, hi: Stamp) -> Result<bool, EmptyRange>
         ensures only_if { OnOk result (lo ≤ hi) }
         ensures refused { OnErr result (hi < lo) }
@@ -280,10 +284,10 @@ impl NodeCore {
         Ok(search.found.is_some())
     }
 
-    /// Looks up the call of `key` at the stamps from `lo` to `hi`, both included. Of the entries of the key
-    /// whose span meets them it lends the one whose span ends latest, and of those the one that begins
-    /// latest; that one becomes the most recently used. None is a miss, which changes nothing. It takes no
-    /// memory.
+    /// Looks up the call of `key` at the stamps from `lo` to `hi`, both included. Among the entries of the key
+    /// whose span meets them, it lends the one whose span ends latest; of several such, the one that begins
+    /// latest. That entry becomes the most recently used. `None` is a miss, which changes nothing. Fails if
+    /// `hi` is below `lo`. Does not allocate.
     pub fn lookup(&mut self, key: &Key, lo: Stamp, hi: Stamp) -> Result<Option<Hit<'_>>, EmptyRange>
         ensures only_if { OnOk result (lo ≤ hi) }
         ensures refused { OnErr result (hi < lo) }
@@ -298,8 +302,9 @@ impl NodeCore {
         Ok(hit_first(&self.entries, processed, is_hit))
     }
 
-    /// Takes the next event: closes, just below it, the still valid entries that were known below it and
-    /// whose tags it matches, and counts them. No entry moves. It takes no memory.
+    /// Takes the next event: closes, just below its stamp, the still valid entries that were known below it and
+    /// have a tag that it matches. Returns how many. No entry moves. Fails if `stamp` does not directly follow
+    /// the last event. Does not allocate.
     pub fn event(&mut self, stamp: Stamp, tags: TagSet) -> Result<usize, OutOfOrder>
         ensures only_if { IsOk result ↔ (stamp ≡ self.old.processed + 1) }
         ensures refused { IfErr result (λ e. e.processed ≡ self.old.processed) }
@@ -318,10 +323,10 @@ impl NodeCore {
         Ok(count)
     }
 
-    /// Inserts an entry, after the replay of the events that came after the last stamp on which it is
-    /// known. It goes to the front. A full node drops its last entry for it; an entry with the same key and
-    /// first stamp is replaced where it ends earlier, and else stays in its place. Only out of memory
-    /// refuses, never where the old entry stays, and gives the entry back.
+    /// Inserts an entry, after replaying the events after its last known stamp. It goes to the front. A full
+    /// node drops its last entry for it. An entry with the same key and first stamp is replaced if it ends
+    /// earlier, and kept otherwise. Fails, and returns the entry, only if memory cannot be allocated, and never
+    /// if the old entry is kept.
     pub fn insert(&mut self, entry: Entry) -> Result<Inserted, AllocFailed<Entry>>
         ensures after { OnOk result (self.new ≡ after_insert self.old entry) }
         ensures answer { IfOk result (λ r. r ≡ outcome self.old entry) }
@@ -339,8 +344,8 @@ impl NodeCore {
         Ok(Inserted::Stored { reach, evicted })
     }
 
-    /// Drops exactly the entries whose span ends at the horizon or before it, and counts them. The others
-    /// keep their order. It takes no memory.
+    /// Drops exactly the entries whose span ends at the horizon or before it, and returns how many. The others
+    /// keep their order. Does not allocate.
     pub fn sweep(&mut self, horizon: Stamp) -> usize
         ensures after { self.new ≡ after_sweep self.old horizon }
         ensures answer { result ≡ swept_count self.old horizon }
@@ -348,8 +353,8 @@ impl NodeCore {
         self.entries.drop_ended(self.processed, horizon)
     }
 
-    /// Keeps the longest prefix of the entries whose values have at most `most` bytes in all. Returns how many it
-    /// dropped. It takes no memory.
+    /// Keeps the longest prefix of the entries whose values have at most `most` bytes in all. Returns how many
+    /// it dropped. Does not allocate.
     pub fn trim(&mut self, most: usize) -> usize
         ensures after { self.new ≡ after_trim self.old most }
         ensures answer { result ≡ trimmed_count self.old most }

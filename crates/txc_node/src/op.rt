@@ -1,4 +1,4 @@
-//! What a node is asked for.
+//! Requests to a node.
 ghost use Rattle.std.specs.Prelude.{◌≡◌, ◌≤◌, IfSome};
 ghost use Rattle.txc_node.specs.Steps.{function_of};
 
@@ -9,7 +9,7 @@ use txc_tags::{Key, LAST_FUNCTION, TagSet};
 /// A step of the cache.
 #[derive(Debug, Drop)]
 pub enum Op {
-    /// Inserts an entry, as it was handed in.
+    /// Inserts an entry, as the caller made it.
     Insert(Entry),
     /// Looks a call up at the stamps from `lo` to `hi`, both included.
     Lookup { key: Key, lo: Stamp, hi: Stamp },
@@ -17,12 +17,12 @@ pub enum Op {
     Event { stamp: Stamp, tags: TagSet },
     /// Drops the entries whose span ends at the horizon or before it.
     Sweep { horizon: Stamp },
-    /// Keeps the first entries whose values have at most so many bytes in all.
+    /// Keeps the longest prefix of the entries whose values have at most `most` bytes in all.
     Trim { most: usize },
 }
 
 impl Op {
-    /// The function whose call it looks up or inserts; none for an event, a sweep and a trim.
+    /// Returns the function whose call it looks up or inserts, and `None` for an event, a sweep and a trim.
     pub fn function(&self) -> Option<u8>
         ensures answer { result ≡ function_of self.now }
         ensures bound { IfSome result (λ f. f ≤ LAST_FUNCTION) }

@@ -1,4 +1,4 @@
-//! Places that stand behind another one.
+//! Places that are listed after another one.
 ghost use Rattle.std.specs.Prelude.{◌≡◌, ◌<◌, ◌↔◌, ◌++◌, [], length, true, false, IsSome, OnOk, IfOk};
 ghost use Rattle.std.specs.Option.{option_to_list};
 ghost use Rattle.txc_node.specs.declared.place.Place.{Place};
@@ -11,7 +11,7 @@ use indexmap::IndexSet;
 use std::alloc::{AllocError, Global};
 use std::marker::Model;
 
-/// Places that stand behind another one. Most often there is none, so that their set has a block of its own.
+/// Places that are listed after another one. Mostly there are none, so their set has a block of its own.
 #[derive(Debug, Drop)]
 pub(crate) struct Others {
     set: Option<Box<IndexSet<Place>>>,
@@ -26,7 +26,7 @@ impl Model for Others {
     ghost view = { λ o. unwrap_or (option_map (λ b. b.value.keys) o.set) [] };
 }
 
-// Whether a still valid entry stands at a place.
+// Returns `true` if the place has a still valid entry.
 pub(crate) fn is_live(entries: &KeyedEntries, place: &Place) -> bool
     ensures { result ≡ is_live entries.now.entries place.now }
 {
@@ -36,7 +36,7 @@ pub(crate) fn is_live(entries: &KeyedEntries, place: &Place) -> bool
     }
 }
 
-// Keeps of the places those at which still valid entries stand.
+// Keeps the places of still valid entries.
 fn clean(places: &mut IndexSet<Place>, entries: &KeyedEntries)
     ensures { (q : Place) → is_live entries.now.entries q ≡ true
         → has_place places.old.keys q ≡ true → has_place places.new.keys q ≡ true }
@@ -52,7 +52,7 @@ fn clean(places: &mut IndexSet<Place>, entries: &KeyedEntries)
     }
 }
 
-// A set of one place.
+// Makes a set of one place.
 fn one(alloc: Global, place: Place) -> Result<IndexSet<Place>, AllocError>
     ensures { IfOk result (λ set. has_place set.keys place ≡ true) }
 {
@@ -61,7 +61,7 @@ fn one(alloc: Global, place: Place) -> Result<IndexSet<Place>, AllocError>
     Ok(set)
 }
 
-// Puts a place among those of a set.
+// Adds a place to a set.
 fn insert(set: &mut IndexSet<Place>, place: Place) -> Result<(), AllocError>
     ensures listed { OnOk result (has_place set.new.keys place ≡ true) }
     ensures kept { (q : Place) → has_place set.old.keys q ≡ true → has_place set.new.keys q ≡ true }
@@ -70,7 +70,7 @@ fn insert(set: &mut IndexSet<Place>, place: Place) -> Result<(), AllocError>
     Ok(())
 }
 
-// Takes a place out of a set.
+// Removes a place from a set.
 fn remove(set: &mut IndexSet<Place>, place: &Place)
     ensures { (q : Place) → equal_places place.now q ≡ false
         → has_place set.old.keys q ≡ true → has_place set.new.keys q ≡ true }
@@ -79,14 +79,14 @@ fn remove(set: &mut IndexSet<Place>, place: &Place)
 }
 
 impl Others {
-    /// None.
+    /// Makes an empty list.
     pub(crate) fn none() -> Others
         ensures { result ≡ [] }
     {
         Others { set: None }
     }
 
-    /// The places.
+    /// Returns the places.
     pub(crate) fn as_slice(&self) -> &[Place]
         ensures { result.now ≡ self.now }
     {
@@ -96,7 +96,7 @@ impl Others {
         }
     }
 
-    /// Puts a place among them.
+    /// Adds a place. Fails if there is no memory for it; the listed places stay.
     pub(crate) fn add(&mut self, alloc: Global, place: Place) -> Result<(), AllocError>
         ensures listed { OnOk result (has_place self.new place ≡ true) }
         ensures kept { (q : Place) → has_place self.old q ≡ true → has_place self.new q ≡ true }
@@ -108,7 +108,7 @@ impl Others {
         Ok(())
     }
 
-    /// Takes the last one out.
+    /// Removes the last place, and returns it.
     pub(crate) fn pop(&mut self) -> Option<Place>
         ensures places { self.old ≡ self.new ++ option_to_list result }
         ensures found { IsSome result ↔ (0 < length self.old) }
@@ -119,7 +119,7 @@ impl Others {
         }
     }
 
-    /// Takes a place off.
+    /// Removes a place.
     pub(crate) fn remove(&mut self, place: &Place)
         ensures { (q : Place) → equal_places place.now q ≡ false
             → has_place self.old q ≡ true → has_place self.new q ≡ true }
@@ -129,7 +129,7 @@ impl Others {
         }
     }
 
-    /// Keeps those at which still valid entries stand.
+    /// Keeps the places of still valid entries.
     pub(crate) fn clean(&mut self, entries: &KeyedEntries)
         ensures { (q : Place) → is_live entries.now.entries q ≡ true
             → has_place self.old q ≡ true → has_place self.new q ≡ true }

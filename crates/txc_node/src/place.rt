@@ -1,4 +1,4 @@
-//! Where an entry stands.
+//! Places of entries.
 ghost use Rattle.std.specs.Prelude.{◌≡◌};
 ghost use Rattle.txc_node.specs.Places.{place_at, head_of};
 
@@ -7,10 +7,10 @@ use std::hash::{Hash, Hasher};
 use txc_stamp::Stamp;
 use txc_tags::Key;
 
-// More than there are stamps.
+// More than the number of stamps.
 const STAMPS: u64 = 4_294_967_296;
 
-/// Where an entry stands: its key, and its first stamp.
+/// Place of an entry: its key, and its first stamp.
 #[derive(Debug, Drop)]
 pub(crate) struct Place {
     pub(crate) key: Key,
@@ -18,7 +18,7 @@ pub(crate) struct Place {
 }
 
 impl Place {
-    /// The place of that key and first stamp.
+    /// Makes the place of that key and first stamp.
     pub(crate) fn new(key: &Key, lo: Stamp) -> Place
         ensures { result ≡ place_at key.now lo }
     {
@@ -28,14 +28,14 @@ impl Place {
         }
     }
 
-    // The function and the first stamp in one number.
+    // Returns the function and the first stamp as one number.
     fn head(&self) -> u64
         ensures { result ≡ head_of self.now }
     {
         u64::from(self.key.function()) * STAMPS + u64::from(self.lo.number())
     }
 
-    /// An equal place.
+    /// Returns an equal place.
     pub(crate) fn copy(&self) -> Place
         ensures { result ≡ self.now }
     {

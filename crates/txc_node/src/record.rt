@@ -1,14 +1,14 @@
-//! What a history keeps of a step.
+//! Records of a node's history.
 use crate::hit::Shown;
 use crate::op::Op;
 use crate::reply::Reply;
 
-/// A step of a node's history. The turn counts the steps that the pass made before it.
+/// A step of a node's history. `turn` counts the earlier steps of the same pass.
 #[derive(Debug, Drop)]
 pub struct Record {
     pub pass: usize,
     pub turn: usize,
     pub op: Op,
-    /// What the step was answered, with a copy of what a hit showed.
+    /// The reply to the step, with a copy of the hit if it was one.
     pub reply: Reply<Shown>,
 }

@@ -1,4 +1,4 @@
-//! Why a step is refused.
+//! Errors of steps.
 ghost use Rattle.std.specs.Prelude.{◌≡◌};
 ghost use Rattle.txc_node.specs.Steps.{refusal_by};
 
@@ -6,23 +6,23 @@ use crate::entry::EntryError;
 use std::fmt;
 use txc_stamp::Stamp;
 
-/// Why a step is refused. It is printed as its code and the number that goes with it.
+/// Error of a step. It is printed as its code and, if it has one, its number.
 #[derive(Clone, Copy, Debug, PartialEq, Eq)]
 pub enum Refusal {
-    /// A lookup's stamps end before they begin.
+    /// The stamps of a lookup end before they begin.
     EmptyRange,
-    /// An entry is known up to a stamp below its first.
+    /// The last known stamp of an entry is below its first.
     BadReach,
-    /// An event is not the one after the processed stamp.
+    /// An event does not directly follow the processed stamp.
     OutOfOrder(Stamp),
     /// A value has more bytes than it may.
     ValueTooLong,
-    /// A growth was refused, which an insertion needs to store its entry.
+    /// An insertion cannot allocate memory to store its entry.
     Memory,
 }
 
 impl Refusal {
-    /// Why there is no such entry.
+    /// Returns the error of a step for an entry that cannot be made.
     pub fn of_entry(error: EntryError) -> Refusal
         ensures { result ≡ refusal_by error }
     {

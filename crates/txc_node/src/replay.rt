@@ -9,7 +9,7 @@ use circular_buffer::HeapCircularBuffer;
 use txc_stamp::{Reach, Stamp};
 use txc_tags::TagSet;
 
-// Whether the recent event at a place matches.
+// Returns `true` if the recent event at a place matches.
 fn matches_at(recent: &HeapCircularBuffer<TagSet>, i: usize, tags: &TagSet) -> bool
     requires { i < length recent.now.items }
     ensures { HoldsAt (λ t. result ≡ sets_match t tags.now) recent.now.items i }
@@ -20,7 +20,7 @@ fn matches_at(recent: &HeapCircularBuffer<TagSet>, i: usize, tags: &TagSet) -> b
     }
 }
 
-// The first that matches of the recent events from a place on, as it is counted from there.
+// Returns the first recent event from a place on that matches, counted from there.
 fn first_match(recent: &HeapCircularBuffer<TagSet>, from: usize, tags: &TagSet) -> Option<usize>
     requires { from ≤ length recent.now.items }
     ensures { result ≡ position (λ t. sets_match t tags.now) (drop from recent.now.items) }
@@ -33,7 +33,7 @@ fn first_match(recent: &HeapCircularBuffer<TagSet>, from: usize, tags: &TagSet) 
     None
 }
 
-// The reach after the events that came after `known`, up to `processed`, of which the last ones are kept.
+// Returns the reach after the events after `known`, up to `processed`, of which the last ones are stored.
 fn replay(
     reach: Reach,
     tags: &TagSet,
@@ -59,7 +59,7 @@ fn replay(
     }
 }
 
-/// The reach of an entry after the events that it missed.
+/// Returns the reach of an entry after the events that it missed.
 pub(crate) fn replay_for(e: &Entry, processed: Stamp, recent: &HeapCircularBuffer<TagSet>) -> Reach
     ensures value { result ≡ reach_after_replay e.now.reach e.now.tags processed recent.now.items }
     ensures lo { result.lo ≡ e.now.reach.lo }

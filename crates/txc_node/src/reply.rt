@@ -1,36 +1,34 @@
-//! What a node answers.
+//! Replies of a node.
 ghost use Rattle.std.specs.Prelude.{◌≡◌, IfOk};
 ghost use Rattle.txc_node.specs.Steps.{is_refusal, seen_reply};
 
-use crate::entry::Entry;
 use crate::hit::{Hit, Shown};
 use crate::node::Inserted;
 use crate::refusal::Refusal;
 use std::alloc::{AllocError, Global};
 use std::fmt;
 
-/// What a step is answered. A node lends what a hit shows, so that it replies with a [`Hit`]; a record
-/// keeps a copy of it, a [`Shown`].
+/// Reply to a step. A node lends a hit, so its own replies have a [`Hit`]; a record has a copy, a [`Shown`].
 #[derive(Debug, Drop)]
 pub enum Reply<H> {
-    /// What an insertion did.
+    /// Result of an insertion.
     Inserted(Inserted),
-    /// What a lookup found.
+    /// The entry that a lookup found.
     Hit(H),
     /// A lookup found nothing.
     Miss,
-    /// How many entries an event closed.
+    /// The number of entries that an event closed.
     Closed(usize),
-    /// How many entries a sweep dropped.
+    /// The number of entries that a sweep dropped.
     Swept(usize),
-    /// How many entries a trim dropped.
+    /// The number of entries that a trim dropped.
     Trimmed(usize),
-    /// Why the step was refused.
+    /// The step failed with this error.
     Refused(Refusal),
 }
 
 impl<H> Reply<H> {
-    /// Whether the step was refused.
+    /// Returns `true` if the step failed.
     pub fn is_refusal(&self) -> bool
         ensures { result ≡ is_refusal self.now }
     {
@@ -42,7 +40,8 @@ impl<H> Reply<H> {
 }
 
 impl Reply<Hit<'_>> {
-    /// The reply with a copy of what its hit shows. Only a hit takes memory.
+    /// Returns the reply with a copy of its hit. Only a hit allocates; fails only if that memory cannot be
+    /// allocated.
     pub fn into_owned(self, alloc: Global) -> Result<Reply<Shown>, AllocError>
         ensures { IfOk result (λ r. r ≡ seen_reply self.entry) }
     {
@@ -57,45 +56,6 @@ impl Reply<Hit<'_>> {
             Reply::Swept(count) => Ok(Reply::Swept(count)),
             Reply::Trimmed(count) => Ok(Reply::Trimmed(count)),
             Reply::Refused(refusal) => Ok(Reply::Refused(refusal)),
-        }
-    }
-}
-
-// The entry that was dropped, if one was, after the reach of the one that was stored.
-#[derive(Drop)]
-struct Evicted<'a>(&'a Option<Entry>);
-
-impl fmt::Display for Evicted<'_> {
-    ghost use Rattle.std.specs.Prelude.{Some};
-    ghost use Rattle.txc_node.specs.Texts.{evicted_text};
-
-    ghost output = { λ e. Some (evicted_text e.0.now) };
-
-    fn fmt<W: fmt::Write>(&self, f: &mut fmt::Formatter<W>) -> fmt::Result {
-        match self.0 {
-            None => Ok(()),
-            Some(entry) => {
-                let key = &entry.key;
-                let lo = entry.reach.lo();
-                write!(f, " evicted {key}@{lo}")
-            }
-        }
-    }
-}
-
-impl fmt::Display for Inserted {
-    ghost use Rattle.std.specs.Prelude.{Some};
-    ghost use Rattle.txc_node.specs.Texts.{inserted_text};
-
-    ghost output = { λ i. Some (inserted_text i) };
-
-    fn fmt<W: fmt::Write>(&self, f: &mut fmt::Formatter<W>) -> fmt::Result {
-        match self {
-            Inserted::Stored { reach, evicted } => {
-                let evicted = Evicted(evicted);
-                write!(f, "stored {reach}{evicted}")
-            }
-            Inserted::Kept(_) => write!(f, "kept"),
         }
     }
 }

@@ -1,13 +1,13 @@
-//! What a search gave.
+//! Results of searches.
 use crate::versions::Found;
 use txc_stamp::Stamp;
 
-/// What a search of the entries of a key gave at the stamps from `lo` to `hi`, in the node as it was then.
+/// Result of searching the entries of a key at the stamps from `lo` to `hi`, in the node as it was then.
 #[derive(Clone, Copy, Debug)]
 pub struct Search {
     pub lo: Stamp,
     pub hi: Stamp,
     pub(crate) found: Option<Found>,
-    /// How many entries it looked at to take a key or a span.
+    /// Number of entries whose key or span it looked at.
     pub looked: u64,
 }

@@ -1,4 +1,4 @@
-//! Entries as a cache holds them: the key stands in the place alone.
+//! Entries as a cache stores them: without their keys, which only the places have.
 ghost use Rattle.std.specs.Prelude.{◌≡◌};
 ghost use Rattle.std.specs.Option.{option_map};
 ghost use Rattle.txc_node.specs.Places.{place_of};
@@ -10,7 +10,7 @@ use crate::value::Value;
 use txc_stamp::Reach;
 use txc_tags::TagSet;
 
-/// An entry but for its key.
+/// An entry without its key.
 #[derive(Debug, Drop)]
 pub(crate) struct Stored {
     pub(crate) value: Value,
@@ -18,7 +18,7 @@ pub(crate) struct Stored {
     pub(crate) tags: TagSet,
 }
 
-/// The place of an entry, the rest of it in another reach, and the reach that it had.
+/// Splits an entry into its place, the rest of it with another reach, and the reach that it had.
 pub(crate) fn split(entry: Entry, reach: Reach) -> (Place, Stored, Reach)
     requires lo { reach.lo ≡ entry.reach.lo }
     ensures entry { entry_of (result.0, result.1) ≡ record entry { reach = reach } }
@@ -38,7 +38,7 @@ pub(crate) fn split(entry: Entry, reach: Reach) -> (Place, Stored, Reach)
     (place, Stored { value, reach, tags }, before)
 }
 
-/// The entry at a place.
+/// Joins a place and a stored entry.
 pub(crate) fn join(place: Place, stored: Stored) -> Entry
     ensures { result ≡ entry_of (place, stored) }
 {
@@ -52,7 +52,7 @@ pub(crate) fn join(place: Place, stored: Stored) -> Entry
     }
 }
 
-/// The entry of a pair, if there is one.
+/// Joins a pair of a place and a stored entry, if there is one.
 pub(crate) fn join_some(pair: Option<(Place, Stored)>) -> Option<Entry>
     ensures { result ≡ option_map entry_of pair }
 {
@@ -62,7 +62,7 @@ pub(crate) fn join_some(pair: Option<(Place, Stored)>) -> Option<Entry>
     }
 }
 
-/// The entry at a place, in another reach.
+/// Joins a place and a stored entry, with another reach.
 pub(crate) fn in_reach(place: Place, stored: Stored, reach: Reach) -> Entry
     ensures { result ≡ record (entry_of (place, stored)) { reach = reach } }
 {

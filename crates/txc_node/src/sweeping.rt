@@ -1,4 +1,4 @@
-//! A sweep that is being made.
+//! Applying a sweep to the entries.
 ghost use Rattle.std.specs.Prelude.{◌≡◌};
 ghost use Rattle.std.specs.List.{AllByRecursion};
 ghost use Rattle.txc_tags.specs.Keys.{Call};
@@ -14,15 +14,15 @@ use indexmap::IndexMap;
 use txc_stamp::{Reach, Stamp};
 use txc_tags::Key;
 
-/// A sweep that is being made: it drops the entries whose span ends at the horizon or before it, and moves no
-/// other. It reads the reaches in the index of the keys, and goes to an entry only to drop it.
+/// A sweep that is being applied: it drops the entries whose span ends at the horizon or before it, and moves
+/// no other. It reads the reaches in the index of the keys, and goes to an entry only to drop it.
 #[derive(Clone, Copy)]
 pub(crate) struct Sweep {
     pub(crate) processed: Stamp,
     pub(crate) horizon: Stamp,
 }
 
-// Takes the entry at a place out, and off those under its tags, if one stands there.
+// Removes the entry at a place, and unlists it under its tags, if there is one.
 fn take_out(cache: &mut WeighedEntries, index: &mut TagIndex, place: &Place)
     requires stored { AreStored index.old.tables.items cache.old.entries }
     ensures stored { AreStored index.new.tables.items cache.new.entries }
@@ -35,14 +35,14 @@ fn take_out(cache: &mut WeighedEntries, index: &mut TagIndex, place: &Place)
 }
 
 impl Sweep {
-    /// Whether a span ends at the horizon or before it.
+    /// Returns `true` if a span ends at the horizon or before it.
     pub(crate) fn ends(&self, reach: Reach) -> bool
         ensures { result ≡ ends_by self.now.processed self.now.horizon reach }
     {
         reach.end(self.processed) <= self.horizon.number()
     }
 
-    // Takes the entry of a key out that has a reach, if that has ended.
+    // Removes the entry of a key with a reach, if that has ended.
     fn at_reach(&self, cache: &mut WeighedEntries, index: &mut TagIndex, key: &Key, reach: Reach)
         requires stored { AreStored index.old.tables.items cache.old.entries }
         requires reach { HasReach (entries_of cache.old.entries) key.now reach }
@@ -57,7 +57,7 @@ impl Sweep {
         }
     }
 
-    // The same at each of the reaches of a key.
+    // Removes the ended entries at the reaches of a key.
     fn at_key(
         &self,
         cache: &mut WeighedEntries,
@@ -79,7 +79,7 @@ impl Sweep {
         }
     }
 
-    // The same at those of the key that is at an index.
+    // Removes the ended entries of the key at an index.
     fn at_index(
         &self,
         cache: &mut WeighedEntries,
@@ -102,7 +102,7 @@ impl Sweep {
         }
     }
 
-    /// Takes out what it drops, by the reaches of all keys.
+    /// Removes the ended entries, by the reaches of all keys.
     pub(crate) fn at_all(
         &self,
         cache: &mut WeighedEntries,

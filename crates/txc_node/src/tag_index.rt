@@ -19,11 +19,11 @@ use txc_tags::{LAST_TABLE, Rows, Tag, TagSet};
 /// The places of entries by the rows of one table that they depend on.
 pub(crate) type Buckets = IndexMap<Rows, Bucket>;
 
-/// How many tables there are.
+/// Number of tables.
 const TABLES: usize = LAST_TABLE as usize + 1;
 
-/// The places of the still valid entries by their tags, for each table a map. A place may stay there after
-/// its entry was closed, until an event has the tag or the entry is dropped.
+/// The places of the still valid entries by their tags: a map for each table. A place may stay listed after its
+/// entry was closed, until an event has the tag or the entry is dropped.
 #[derive(Debug, Drop)]
 pub(crate) struct TagIndex {
     alloc: Global,
@@ -46,7 +46,7 @@ fn list(buckets: &mut Buckets, alloc: Global, rows: Rows, place: &Place) -> Resu
     }
 }
 
-// Takes a place off those under rows of a table.
+// Unlists a place under rows of a table.
 fn unlist(buckets: &mut Buckets, rows: Rows, place: &Place)
     ensures places { (r : Rows) (q : Place) → equal_places place.now q ≡ false
         → lists_rows buckets.old.entries r q ≡ true → lists_rows buckets.new.entries r q ≡ true }
@@ -62,7 +62,7 @@ fn unlist(buckets: &mut Buckets, rows: Rows, place: &Place)
     }
 }
 
-// Keeps under rows of a table the places at which still valid entries stand.
+// Keeps under rows of a table the places of still valid entries.
 fn clean_rows(buckets: &mut Buckets, rows: Rows, entries: &KeyedEntries)
     ensures kept { (r : Rows) (q : Place) → is_live entries.now.entries q ≡ true
         → lists_rows buckets.old.entries r q ≡ true → lists_rows buckets.new.entries r q ≡ true }
@@ -76,7 +76,7 @@ fn clean_rows(buckets: &mut Buckets, rows: Rows, entries: &KeyedEntries)
     }
 }
 
-// Keeps under all rows of a table the places at which still valid entries stand.
+// Keeps under all rows of a table the places of still valid entries.
 fn clean_all(buckets: &mut Buckets, entries: &KeyedEntries)
     ensures kept { (r : Rows) (q : Place) → is_live entries.now.entries q ≡ true
         → lists_rows buckets.old.entries r q ≡ true → lists_rows buckets.new.entries r q ≡ true }
@@ -90,8 +90,8 @@ fn clean_all(buckets: &mut Buckets, entries: &KeyedEntries)
     }
 }
 
-// Closes what an event invalidates at the places under rows of a table, and counts it. Of these places it keeps
-// those at which still valid entries stand.
+// Closes the entries that an event invalidates at the places under rows of a table, and returns how many. It
+// keeps the places of still valid entries.
 fn close_rows(
     buckets: &mut Buckets,
     rows: Rows,
@@ -114,8 +114,8 @@ fn close_rows(
     count
 }
 
-// Closes what an event invalidates at the places under all rows of a table, and counts it. Of these places it
-// keeps those at which still valid entries stand.
+// Closes the entries that an event invalidates at the places under all rows of a table, and returns how many.
+// It keeps the places of still valid entries.
 fn close_table(buckets: &mut Buckets, entries: &mut KeyedEntries, closing: &Closing<'_>) -> usize
     ensures closes { Closes closing.now.stamp closing.now.tags.now entries.old entries.new result }
     ensures spared { (r : Rows) (q : Place) → lists_rows buckets.old.entries r q ≡ true
@@ -128,8 +128,8 @@ fn close_table(buckets: &mut Buckets, entries: &mut KeyedEntries, closing: &Clos
     count
 }
 
-// Closes what an event invalidates at the places under those rows of a tag's table that match the tag, and
-// counts it. Of these places it keeps those at which still valid entries stand.
+// Closes the entries that an event invalidates at the places under rows that match a tag of its table, and
+// returns how many. It keeps the places of still valid entries.
 fn close_by(
     buckets: &mut Buckets,
     tag: &Tag,
@@ -151,7 +151,7 @@ fn close_by(
     count + close_rows(buckets, Rows::All, entries, closing)
 }
 
-// Whether a set has a tag.
+// Returns `true` if a set has a tag.
 fn has_tag(tags: &TagSet, tag: &Tag) -> bool
     ensures { result ≡ has_tag tags.now tag.now }
 {
@@ -159,7 +159,7 @@ fn has_tag(tags: &TagSet, tag: &Tag) -> bool
 }
 
 impl TagIndex {
-    /// The index of no entries.
+    /// Makes an empty index. Fails only if memory cannot be allocated.
     pub(crate) fn new(alloc: Global) -> Result<TagIndex, AllocError> {
         let mut tables = Vec::with_capacity(alloc, TABLES)?;
         for i in 0..TABLES {
@@ -177,7 +177,7 @@ impl TagIndex {
         list(&mut self.tables[at], self.alloc, tag.rows, place)
     }
 
-    // Takes a place off those under a tag.
+    // Unlists a place under a tag.
     fn unlist_one(&mut self, tag: &Tag, place: &Place)
         ensures places { KeepsListed (λ t q. equal_places place.now q ≡ false)
             self.old.tables.items self.new.tables.items }
@@ -188,7 +188,7 @@ impl TagIndex {
         unlist(&mut self.tables[at], tag.rows, place);
     }
 
-    /// Lists a place under each of these tags.
+    /// Lists a place under each of these tags. Fails if there is no memory for it; listed places stay.
     pub(crate) fn list(&mut self, tags: &TagSet, place: &Place) -> Result<(), AllocError>
         ensures listed { OnOk result
             (AllByRecursion (λ t. lists self.new.tables.items t place.now ≡ true) tags.now) }
@@ -200,7 +200,7 @@ impl TagIndex {
         Ok(())
     }
 
-    /// Takes a place off those under each of these tags.
+    /// Unlists a place under each of these tags.
     pub(crate) fn unlist(&mut self, tags: &TagSet, place: &Place)
         ensures { KeepsListed (λ t q. equal_places place.now q ≡ false)
             self.old.tables.items self.new.tables.items }
@@ -210,7 +210,7 @@ impl TagIndex {
         }
     }
 
-    // Takes a place off those under a tag that is not one of the others.
+    // Unlists a place under a tag that is not one of the others.
     fn unlist_other(&mut self, tag: &Tag, others: &TagSet, place: &Place)
         ensures places { KeepsListed (λ t q. equal_places place.now q ≡ false)
             self.old.tables.items self.new.tables.items }
@@ -222,7 +222,7 @@ impl TagIndex {
         }
     }
 
-    /// Takes a place off those under each of these tags that is not one of the others.
+    /// Unlists a place under each of these tags that is not one of the others.
     pub(crate) fn unlist_others(&mut self, tags: &TagSet, others: &TagSet, place: &Place)
         ensures places { KeepsListed (λ t q. equal_places place.now q ≡ false)
             self.old.tables.items self.new.tables.items }
@@ -234,8 +234,8 @@ impl TagIndex {
         }
     }
 
-    // Closes what an event invalidates at the places under tags that match this one, and counts it. Of these
-    // places it keeps those at which still valid entries stand.
+    // Closes the entries that an event invalidates at the places under tags that match this one, and returns
+    // how many. It keeps the places of still valid entries.
     fn close_one(&mut self, tag: &Tag, entries: &mut KeyedEntries, closing: &Closing<'_>) -> usize
         ensures closes { Closes closing.now.stamp closing.now.tags.now entries.old entries.new result }
         ensures spared { AreSparedBy closing.now.stamp closing.now.tags.now entries.new.entries
@@ -247,8 +247,8 @@ impl TagIndex {
         close_by(&mut self.tables[at], tag, entries, closing)
     }
 
-    /// Closes what an event invalidates at the places under tags that match one of its own, and counts it. Of
-    /// these places it keeps those at which still valid entries stand.
+    /// Closes the entries that an event invalidates at the places under tags that match one of its own, and
+    /// returns how many. It keeps the places of still valid entries.
     pub(crate) fn close(&mut self, entries: &mut KeyedEntries, closing: &Closing<'_>) -> usize
         ensures closes { Closes closing.now.stamp closing.now.tags.now entries.old entries.new result }
         ensures spared { AllByRecursion (AreSparedBy closing.now.stamp closing.now.tags.now entries.new.entries

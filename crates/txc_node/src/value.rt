@@ -8,13 +8,13 @@ use std::fmt;
 use std::marker::Model;
 use std::sync::Arc;
 
-/// The most bytes of a value that [`Value::new`] makes, and of one whose copies don't share them.
+/// The most bytes of a value that [`Value::new`] makes. Copies of longer values share their bytes.
 pub const MAX_VALUE_LEN: usize = 1024;
 
 /// The most bytes of any value.
 pub const MOST_VALUE_LEN: usize = 1_048_576;
 
-/// The bytes of a value: its own, or those that it shares with its copies.
+/// The bytes of a value: its own, or shared with its copies.
 #[derive(Debug, Drop)]
 pub(crate) enum Held {
     Own(Vec<u8>),
@@ -22,7 +22,7 @@ pub(crate) enum Held {
 }
 
 impl Held {
-    // Holds the bytes: shared if there are more than `MAX_VALUE_LEN` and memory for that is left.
+    // Stores the bytes: shared if there are more than `MAX_VALUE_LEN` and memory for that can be allocated.
     fn new(bytes: Vec<u8>) -> Held
         ensures { bytes_held result ≡ bytes.items }
     {
@@ -37,8 +37,8 @@ impl Held {
     }
 }
 
-/// The bytes of a cached result, at most [`MOST_VALUE_LEN`]. If there are more than [`MAX_VALUE_LEN`], its copies share
-/// them, so that a copy costs the same however many there are.
+/// The bytes of a cached result, at most [`MOST_VALUE_LEN`]. Copies share more than [`MAX_VALUE_LEN`] bytes, so
+/// that a copy costs the same however many there are.
 #[derive(Debug, Drop)]
 pub struct Value {
     held: Held,
@@ -57,7 +57,7 @@ impl Model for Value {
 }
 
 impl Value {
-    /// Returns the bytes as a value; none if there are more than [`MAX_VALUE_LEN`]. It takes no memory.
+    /// Returns the bytes as a value, or `None` if there are more than [`MAX_VALUE_LEN`]. Does not allocate.
     pub fn new(bytes: Vec<u8>) -> Option<Value>
         ensures only_if { IsSome result ↔ (vec_len bytes ≤ MAX_VALUE_LEN) }
         ensures answer { IfSome result (λ v. v ≡ bytes.items) }
@@ -70,8 +70,9 @@ impl Value {
         })
     }
 
-    /// Returns the bytes as a value; none if there are more than `most`. If there are more than [`MAX_VALUE_LEN`], it
-    /// takes memory once, by the allocator of the bytes, so that copies share them. If that fails, each copy copies them.
+    /// Returns the bytes as a value, or `None` if there are more than `most`. If there are more than
+    /// [`MAX_VALUE_LEN`], it allocates once, by the allocator of the bytes, so that copies share them. If that
+    /// fails, each copy copies them.
     pub fn up_to(most: usize, bytes: Vec<u8>) -> Option<Value>
         requires { most ≤ MOST_VALUE_LEN }
         ensures only_if { IsSome result ↔ (vec_len bytes ≤ most) }
@@ -96,7 +97,8 @@ impl Value {
         }
     }
 
-    /// Returns an equal value. It takes no memory if it shares the bytes.
+    /// Returns an equal value. It does not allocate if it shares the bytes, and fails only if memory cannot be
+    /// allocated.
     pub fn copy(&self, alloc: Global) -> Result<Value, AllocError>
         ensures { IfOk result (λ v. v ≡ self.now) }
     {
@@ -108,7 +110,7 @@ impl Value {
     }
 }
 
-// The text of two digits, by the value of the second.
+// The two digits of a byte, by the value of the second digit.
 macro_rules! by_low {
     ($low:expr, $high:literal) => {
         match $low {
@@ -132,7 +134,7 @@ macro_rules! by_low {
     };
 }
 
-// The two hexadecimal digits of a byte, in one text, so that both are written at once.
+// Returns the two hexadecimal digits of a byte as one text, so that both are written at once.
 fn digits(byte: u8) -> &'static str
     ensures { result.now ≡ digits_of byte }
 {
@@ -157,7 +159,7 @@ fn digits(byte: u8) -> &'static str
     }
 }
 
-/// A dash for no bytes, or two hexadecimal digits for each.
+/// Writes two hexadecimal digits for each byte, or a dash if there are none.
 impl fmt::Display for Value {
     ghost use Rattle.std.specs.Prelude.{Some};
     ghost use Rattle.txc_node.specs.Texts.{hex_text};

@@ -13,15 +13,15 @@ use std::alloc::{AllocError, Global};
 use std::marker::Model;
 use txc_stamp::{Reach, Stamp};
 
-/// Where a reach stands among those of its key.
+/// Place of a reach among those of its key.
 #[derive(Clone, Copy, Debug)]
 pub struct Found {
     pub(crate) at: usize,
     pub(crate) reach: Reach,
 }
 
-/// The reaches of the entries of one key, the most recently used first. There is at least one, and one alone
-/// takes no memory of its own.
+/// The reaches of the entries of one key, at least one, the most recently used first. A single reach allocates
+/// nothing of its own.
 #[derive(Debug, Drop)]
 pub(crate) struct Versions {
     first: Reach,
@@ -37,14 +37,14 @@ impl Model for Versions {
     ghost view = { λ v. v.first ∷ v.others.items };
 }
 
-// Whether the span of a reach meets the stamps from `lo` to `hi`.
+// Returns `true` if the span of a reach meets the stamps from `lo` to `hi`.
 fn meets(reach: Reach, processed: Stamp, lo: Stamp, hi: Stamp) -> bool
     ensures { result ≡ meets processed lo hi reach }
 {
     reach.lo() <= hi && lo.number() < reach.end(processed)
 }
 
-// Whether one span ends later than another, or equally and begins later.
+// Returns `true` if one span ends later than another, or ends equally and begins later.
 fn lasts_longer(a: Reach, b: Reach, processed: Stamp) -> bool
     ensures { result ≡ lasts_longer processed a b }
 {
@@ -52,21 +52,21 @@ fn lasts_longer(a: Reach, b: Reach, processed: Stamp) -> bool
     other < end || (other == end && b.lo() < a.lo())
 }
 
-// A reach in the stead of one that begins alike.
+// Returns this reach instead of one that begins at the same stamp.
 fn in_stead(new: Reach, old: Reach) -> Reach
     ensures { result ≡ in_stead new old }
 {
     if old.lo() == new.lo() { new } else { old }
 }
 
-// Which of these begins at a stamp.
+// Returns which of these begins at a stamp.
 fn begins_at(reaches: &[Reach], lo: Stamp) -> Option<usize>
     ensures { result ≡ position (λ i. i.lo == lo) reaches.now }
 {
     reaches.iter().position(|reach| reach.lo() == lo)
 }
 
-// Changes each of these that begins where this one does.
+// Replaces each of these that begins at the stamp of this one.
 fn change_each(reaches: &mut [Reach], reach: Reach)
     ensures { reaches.new ≡ map (in_stead reach) reaches.old }
 {
@@ -75,14 +75,14 @@ fn change_each(reaches: &mut [Reach], reach: Reach)
     }
 }
 
-// The same in a list that may grow.
+// Replaces them in a list that may grow.
 fn change_all(reaches: &mut Vec<Reach>, reach: Reach)
     ensures { reaches.new.items ≡ map (in_stead reach) reaches.old.items }
 {
     change_each(reaches, reach);
 }
 
-// Keeps of these the ones that a sweep leaves.
+// Keeps the reaches that a sweep leaves.
 fn keep_lasting(reaches: &mut Vec<Reach>, sweep: &Sweep)
     ensures { reaches.new.items ≡ lasting sweep.now.processed sweep.now.horizon reaches.old.items }
 {
@@ -94,7 +94,7 @@ fn keep_lasting(reaches: &mut Vec<Reach>, sweep: &Sweep)
 }
 
 impl Versions {
-    /// The one reach of a key.
+    /// Makes the list of a single reach.
     pub(crate) fn one(alloc: Global, reach: Reach) -> Versions
         ensures { result ≡ reach ∷ [] }
     {
@@ -104,14 +104,14 @@ impl Versions {
         }
     }
 
-    /// How many there are.
+    /// Returns how many reaches there are.
     pub(crate) fn len(&self) -> usize
         ensures { result ≡ length self.now }
     {
         self.others.len() + 1
     }
 
-    /// The reach at a place.
+    /// Returns the reach at a place.
     pub(crate) fn get(&self, at: usize) -> Reach
         requires { at < length self.now }
         ensures { slice_get self.now at ≡ Some result }
@@ -122,7 +122,7 @@ impl Versions {
         self.others[at - 1]
     }
 
-    // The better of the best so far and the reach at `i`.
+    // Returns the better of the best so far and the reach at `i`.
     fn better_of(
         &self,
         best: Option<usize>,
@@ -154,7 +154,7 @@ impl Versions {
         }
     }
 
-    /// Where the reach stands whose span meets the stamps from `lo` to `hi`, and that lasts longest.
+    /// Returns the place of the reach whose span meets the stamps from `lo` to `hi` and that lasts longest.
     pub(crate) fn best(&self, processed: Stamp, lo: Stamp, hi: Stamp) -> Option<usize>
         ensures within { IfSome result (λ b. b < length self.now) }
         ensures best { (key : Call) (es : List Entry) → AreOf key es self.now
@@ -167,7 +167,7 @@ impl Versions {
         best
     }
 
-    /// Where the reach stands that begins at `lo`.
+    /// Returns the place of the reach that begins at `lo`.
     pub(crate) fn position(&self, lo: Stamp) -> Option<usize>
         ensures { result ≡ position (λ i. i.lo == lo) self.now }
     {
@@ -180,7 +180,7 @@ impl Versions {
         }
     }
 
-    /// Puts a reach first.
+    /// Puts a reach first. Fails, and changes nothing, if there is no memory for it.
     pub(crate) fn add(&mut self, reach: Reach) -> Result<(), AllocError>
         ensures after { OnOk result (self.new ≡ reach ∷ self.old) }
         ensures unchanged { OnErr result (self.new ≡ self.old) }
@@ -190,7 +190,7 @@ impl Versions {
         Ok(())
     }
 
-    /// Puts a reach first in the stead of the one at a place.
+    /// Replaces the reach at a place by this one, which becomes the first.
     pub(crate) fn bring_first(&mut self, at: usize, reach: Reach)
         requires { at < length self.old }
         ensures { self.new ≡ reach ∷ remove self.old at }
@@ -202,7 +202,7 @@ impl Versions {
         self.first = reach;
     }
 
-    /// Changes the reach that begins alike.
+    /// Replaces the reach that begins at the same stamp.
     pub(crate) fn set(&mut self, reach: Reach)
         ensures { self.new ≡ map (in_stead reach) self.old }
     {
@@ -210,7 +210,7 @@ impl Versions {
         change_all(&mut self.others, reach);
     }
 
-    /// Drops the first where there are others, and says whether there were.
+    /// Drops the first reach if there are others. Returns `false` if there are none.
     pub(crate) fn drop_first(&mut self) -> bool
         ensures more { IsTrue result → (r : Interval) → (rs : List Interval) → self.old ≡ r ∷ rs
             → self.new ≡ rs }
@@ -224,7 +224,7 @@ impl Versions {
         true
     }
 
-    /// Drops the last where there are others, and says whether there were.
+    /// Drops the last reach if there are others. Returns `false` if there are none.
     pub(crate) fn drop_last(&mut self) -> bool
         ensures more { IsTrue result → self.new ≡ take (length self.old - 1) self.old }
         ensures alone { IsFalse result → take (length self.old - 1) self.old ≡ [] }
@@ -232,7 +232,7 @@ impl Versions {
         self.others.pop().is_some()
     }
 
-    /// Keeps the reaches that a sweep leaves, and says whether there are any.
+    /// Keeps the reaches that a sweep leaves. Returns `true` if there are any.
     pub(crate) fn keep_lasting(&mut self, sweep: &Sweep) -> bool
         ensures more { IsTrue result → self.new ≡ lasting sweep.now.processed sweep.now.horizon self.old }
         ensures none { IsFalse result → lasting sweep.now.processed sweep.now.horizon self.old ≡ [] }

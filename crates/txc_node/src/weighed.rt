@@ -1,4 +1,4 @@
-//! Entries at their places, with the bytes of their values.
+//! Entries by their places, with the number of bytes of their values.
 ghost use Rattle.std.specs.Prelude.{◌≡◌, ◌-◌, ◌≤◌, [], length, take, slice_get, is_some, option_map, option_copied, IfOk, IfErr, OnOk, OnErr, IsSome, IsOk};
 ghost use Rattle.std.specs.Map.{lookup, remove_entry};
 ghost use Rattle.std.specs.Map.Iter.{deref_pair};
@@ -20,7 +20,7 @@ use std::marker::Model;
 use std::num::NonZeroUsize;
 use txc_stamp::Reach;
 
-/// Entries at their places, the most recently used first, with the bytes of their values in all.
+/// Entries by their places, the most recently used first, with the number of bytes of their values in all.
 #[derive(Drop)]
 pub(crate) struct WeighedEntries {
     cache: LruCache<Place, Stored>,
@@ -56,8 +56,8 @@ fn value_len_in(pair: &Option<(Place, Stored)>) -> usize
     }
 }
 
-// Closes the entry at a place just below an event that invalidates it. Returns its new reach, and whether a
-// still valid entry stands there now.
+// Closes the entry at a place just below an event that invalidates it. Returns its new reach, and whether the
+// entry there is still valid now.
 fn close_in(
     cache: &mut LruCache<Place, Stored>,
     place: &Place,
@@ -83,7 +83,7 @@ fn close_in(
 }
 
 impl WeighedEntries {
-    /// Makes room for `capacity` entries, of which there is none yet.
+    /// Makes an empty list with room for `capacity` entries. Fails only if memory cannot be allocated.
     pub(crate) fn new(alloc: Global, capacity: NonZeroUsize) -> Result<WeighedEntries, AllocError>
         requires { non_zero_usize_get capacity ≤ MOST_CAPACITY }
         ensures { IfOk result (λ w. w ≡ lru_cache [] (non_zero_usize_get capacity)) }
@@ -107,21 +107,21 @@ impl WeighedEntries {
         self.bytes
     }
 
-    /// Returns what is stored at a place.
+    /// Returns the entry stored at a place.
     pub(crate) fn peek(&self, place: &Place) -> Option<&Stored>
         ensures { option_copied result ≡ lookup (equal_places place.now) self.now.entries }
     {
         self.cache.peek(place)
     }
 
-    /// Returns the entry that was used last, with its place.
+    /// Returns the most recently used entry, with its place.
     pub(crate) fn first(&self) -> Option<(&Place, &Stored)>
         ensures { option_map deref_pair result ≡ slice_get self.now.entries 0 }
     {
         self.cache.peek_mru()
     }
 
-    /// Moves the entry at a place to the front, and returns whether there is one.
+    /// Moves the entry at a place to the front. Returns `true` if there is one.
     pub(crate) fn promote(&mut self, place: &Place) -> bool
         ensures value { result ≡ is_some (lookup (equal_places place.now) self.old.entries) }
         ensures entries { self.new
@@ -130,8 +130,8 @@ impl WeighedEntries {
         self.cache.promote(place)
     }
 
-    /// Closes the entry at a place just below an event that invalidates it. Returns its new reach, and whether a
-    /// still valid entry stands there now.
+    /// Closes the entry at a place just below an event that invalidates it. Returns its new reach, and whether
+    /// the entry there is still valid now.
     pub(crate) fn close(&mut self, place: &Place, closing: &Closing<'_>) -> (Option<Reach>, bool)
         ensures entries { self.new.entries
             ≡ after_at closing.now.stamp closing.now.tags.now place.now self.old.entries }
@@ -144,7 +144,7 @@ impl WeighedEntries {
         close_in(&mut self.cache, place, closing)
     }
 
-    /// Takes out what is stored at a place.
+    /// Removes the entry stored at a place, and returns it.
     pub(crate) fn pop(&mut self, place: &Place) -> Option<Stored>
         ensures value { result ≡ lookup (equal_places place.now) self.old.entries }
         ensures entries { self.new
@@ -159,7 +159,7 @@ impl WeighedEntries {
         }
     }
 
-    /// Takes out the least recently used entry.
+    /// Removes the least recently used entry, and returns it.
     pub(crate) fn pop_last(&mut self) -> Option<(Place, Stored)>
         ensures value { result ≡ last_entry self.old.entries }
         ensures entries { self.new
@@ -170,7 +170,8 @@ impl WeighedEntries {
         last
     }
 
-    /// Puts an entry first. Returns what stood at its place, or else the last entry if there is no room for it.
+    /// Puts an entry first. Returns the entry that it replaced, or the last entry if that was dropped for want
+    /// of room. Fails, and returns the new entry, if there is no memory for it.
     pub(crate) fn push(
         &mut self,
         place: Place,

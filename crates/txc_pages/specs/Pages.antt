@@ -1,4 +1,4 @@
--- What pages call, and what that leaves of a client.
+-- The calls of a page, and the client after them.
 use Rattle.std.specs.Prelude.{◌≡◌, ℕ, ◌-◌, ◌^◌, List, [], ◌∷◌, ◌++◌, slice_get, Some, Result, Ok, Err}
 use Rattle.std.specs.List.{filter}
 use Rattle.txc_stream.specs.Names.{Name}
@@ -19,29 +19,30 @@ use Rattle.txc_pages.specs.declared.error.ReadError.TheVariants as reads
 use Rattle.txc_ledger.specs.declared.run_error.RunError.{RunError}
 use Rattle.txc_ledger.specs.declared.run_error.RunError.TheVariants as runs
 
--- a call that was made, and how it ended: with its value, or a refusal
+-- a call and its result: its value, or an error
 abbrev pub MadeCall : Type 0
 MadeCall = Call × Result (List ℕ) TxnError
 
--- the value of a call, if it was answered
+-- the recorded result of a call, if it returned a value
 abbrev pub answer_of : MadeCall → List Recorded
 answer_of (key, Ok value) = record { key = key; value = value } ∷ []
 answer_of (key, Err error) = []
 
--- of these calls, the latest first, those that were answered, in the order in which they were made
+-- the results of these calls, listed from the latest, in the order in which they were made; a call that failed
+-- has none
 abbrev pub answers_of : List MadeCall → List Recorded
 answers_of [] = []
 answers_of (call ∷ earlier) = answers_of earlier ++ answer_of call
 
--- These calls of the transaction were made, one after the other, the latest first. Each ran from what the one before it
--- left, and no pass has seen less of its node since.
+-- These calls of the transaction were made, one after the other, the latest first. Each ran from what the one
+-- before it left, and no pass has seen less of its node since.
 abbrev pub HaveCalled : Next → Name → (ℕ → Name) → RoTxnValue → List MadeCall → RoTxnValue → Type 0
 HaveCalled next row histories old [] new = new ≡ old
 HaveCalled next row histories old (call ∷ earlier) new = (before : RoTxnValue) × HaveCalled next row histories old earlier before
     × HasRun next row histories before call.0 new call.1 × HaveGrown before.passes new.passes
 
--- A transaction of the client as it was began with these bounds and no answer. Since then it has made these calls and
--- no others, and those that were answered are its answers.
+-- A transaction of the client began with these bounds and no results. Since then it has made exactly these
+-- calls, and the results of those that returned a value are its results.
 pub record HasCalled (next : Next) (row : Name) (histories : ℕ → Name) (client : ClientValue) (bounds : Bounds) (t : RoTxnValue) : Type 0 where
   pub first : RoTxnValue
   pub calls : List MadeCall
@@ -61,21 +62,21 @@ pub record IsPageRun (next : Next) (row : Name) (histories : ℕ → Name) (clie
   pub answered : last.txn.core.recorded ≡ answers
   pub ended : left ≡ client_of last
 
--- what a page that was refused left of the client: where it was not run, all; else what its transaction did
+-- the client after a page that failed: unchanged if the page did not run; otherwise as its transaction left it
 abbrev pub IsLeftByRefused : Next → Name → (ℕ → Name) → ClientValue → Bounds → ReadError → ClientValue → Type 0
 IsLeftByRefused next row histories client bounds reads.Memory left = left ≡ client
 IsLeftByRefused next row histories client bounds (reads.Page cause) left =
     (answers : List Recorded) × IsPageRun next row histories client bounds answers left
 
--- what these calls asked and were replied, in order
+-- the requests of these calls and their replies, in order
 abbrev pub exchanges_of : (next : Next) (row : Name) (histories : ℕ → Name) (old : RoTxnValue) (calls : List MadeCall) (new : RoTxnValue)
     → HaveCalled next row histories old calls new → List Exchange
 exchanges_of next row histories old [] new h = []
 exchanges_of next row histories old (call ∷ earlier) new h = exchanges_of next row histories old earlier h.0 h.1 ++ h.2.exchanges
 
--- The client's own records in the history of a node are, after the calls of a page, those before it, and then those of the
--- calls' exchanges with the node, in their order. They are one of each hit and of each entry that the node keeps, at most one
--- of each miss and of each other insertion, and no others.
+-- After the calls of a page, the client's own records in the history of a node are those before the page, and
+-- then those of the calls' exchanges with the node, in order. There is one of each hit and of each entry that
+-- the node keeps, at most one of each miss and of each other insertion, and no other.
 abbrev pub PagesStandOnce : Type 0
 PagesStandOnce = (next : Next) (row : Name) (histories : ℕ → Name) (old : RoTxnValue) (calls : List MadeCall) (new : RoTxnValue)
     (made : HaveCalled next row histories old calls new) (node : ℕ) (before after : PassValue)
@@ -86,12 +87,12 @@ PagesStandOnce = (next : Next) (row : Name) (histories : ℕ → Name) (old : Ro
 abbrev pub last_bounds : ℕ → Bounds
 last_bounds newest = record { now = 2 ^ 64 - 1; staleness = 2 ^ 64 - 1; at_least = newest }
 
--- the transaction refused, and not the page itself
+-- the error is the transaction's, not the page's own
 abbrev pub IsOfTxn : RunError → Type 0
 IsOfTxn (runs.Txn cause) = Unit {0}
 IsOfTxn refusal = ⊥
 
--- of a page: out of memory before it began; or as the page itself is
+-- of a page: there was no memory before it began; or the page's own error
 abbrev pub IsPageRefused : (RunError → Type 0) → ReadError → Type 0
 IsPageRefused refuses reads.Memory = Unit {0}
 IsPageRefused refuses (reads.Page cause) = refuses cause

@@ -1,14 +1,14 @@
-//! Why pages are not read.
+//! Errors of reading pages.
 use thiserror::Error;
 use txc_ledger::RunError;
 
-/// Why a page was not read. Nothing was changed, and the client is there for the next one.
+/// Errors of reading a page. Nothing was changed, and the client can continue.
 #[derive(Clone, Copy, Debug, PartialEq, Eq, Error)]
 pub enum ReadError {
-    /// The transaction was not begun, out of memory. The page was not run.
+    /// Memory to begin the transaction cannot be allocated. The page was not run.
     #[error("out of memory")]
     Memory,
-    /// The page was refused, and its transaction given up.
+    /// The page failed, and its transaction was aborted.
     #[error("{0}")]
     Page(RunError),
 }

@@ -1,10 +1,10 @@
-//! What the histories of the nodes show of pages.
+//! A law about pages in the histories of the nodes.
 ghost use Rattle.txc_pages.specs.Pages.{PagesStandOnce};
 
-/// Of what the calls of a page asked of a node, each hit and each entry that the node keeps stands in that node's
-/// history once. Each miss and each other insertion stands there at most once, as a node may refuse. They stand
-/// under the client's pass, in the order in which they were asked, as far as the pass has seen. The pass has made
-/// no other record there meanwhile. It is a lemma: it has no code.
+/// For the requests of a page's calls to a node, each hit and each stored entry is in that node's history once.
+/// Each miss and each other insertion is recorded at most once, since a node may fail. They are recorded under
+/// the client's pass in the order of the requests, as far as the pass has seen. The pass has no other record
+/// there from that time. It is a lemma without code.
 pub fn pages_stand_once()
     ensures { PagesStandOnce }
 {}

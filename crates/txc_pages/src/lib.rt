@@ -1,6 +1,6 @@
-//! Pages: what is read in one read-only transaction.
+//! Pages: the reads of one read-only transaction.
 //!
-//! A [`Page`] makes calls in its [`PageTxn`], of which it is known what it began with. [`read_page`] runs it by a
+//! A [`Page`] makes calls in its [`PageTxn`], whose beginning contracts know. [`read_page`] runs it by a
 //! client, and returns a receipt of the calls that it made.
 #![tactic(auto)]
 

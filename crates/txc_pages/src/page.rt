@@ -11,22 +11,22 @@ use txc_ledger::RunError;
 use txc_node::Value;
 use txc_tags::{Key, KeyError};
 
-/// A page: what is read in one read-only transaction, by calls of the application's functions.
+/// A page: reads in one read-only transaction, by calls of the application's functions.
 pub trait Page<A: App, D: Definition> {
     ghost use Rattle.std.specs.Prelude.{List};
     ghost use Rattle.txc_ports.specs.declared.recorded.Recorded.{Recorded};
     ghost use Rattle.txc_ledger.specs.declared.run_error.RunError.{RunError};
 
-    /// What the page is.
+    /// The content of the page.
     type Output;
 
-    // What the page says of the calls that it made, in order, with their values.
+    // Its relation to the calls that it made, in order, with their values.
     ghost shows: { Self → List Recorded → Self.Output → Type 0 };
 
-    // How it is refused.
+    // The errors with which it fails.
     ghost refuses: { Self → RunError → Type 0 };
 
-    /// Makes the calls in the transaction, which is new.
+    /// Makes the calls in the transaction, which is new. If it fails, the transaction is aborted.
     fn show<J: Naming, B: Begun, R: Wait>(
         &self,
         rt: &R,
@@ -38,14 +38,15 @@ pub trait Page<A: App, D: Definition> {
         ensures refused { IfErr result (refuses self.now) };
 }
 
-/// The page of one call, which shows its value.
+/// The page of one call. Its content is the call's value.
 #[derive(Drop)]
 pub struct OneCall {
     pub key: Key,
 }
 
 impl OneCall {
-    /// The page of the call of a function with these arguments. It takes no memory.
+    /// Makes the page of the call of a function with these arguments. Fails if they are not a key. Does not
+    /// allocate.
     pub fn new(function: u8, args: &[u32]) -> Result<OneCall, KeyError>
         ensures answer { IfOk result (λ page. page.key ≡ record { function = function; args = args.now }) }
         ensures refused { IfErr result (IsKeyRefusal function args.now) }

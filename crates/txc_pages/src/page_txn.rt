@@ -24,7 +24,8 @@ use txc_ports::{Bounds, Recorded, TxnError};
 use txc_tags::Key;
 use txc_txn::Receipt;
 
-/// What the transaction of a page began with: the client as it was, and the bounds. Only proofs know it.
+/// The beginning of a page's transaction: the client as it was, and the bounds. It exists for the verifier
+/// only.
 pub trait Begun {
     ghost use Rattle.txc_client.specs.Txn.{ClientValue};
     ghost use Rattle.txc_ports.specs.declared.bounds.Bounds.{Bounds};
@@ -42,8 +43,8 @@ impl Begun for Brand {
     ghost bounds = { record { now = 0; staleness = 0; at_least = 0 } };
 }
 
-/// The read-only transaction of a page. All that it answers is right at each pin where it may still be
-/// serialised. Whatever the page does with it, it has made calls, one after the other, since it began.
+/// The read-only transaction of a page. Each value that it returns is correct at each pin at which it may still
+/// be serialised. Whatever the page does with it, it has only made calls, one after the other, since it began.
 pub struct PageTxn<'a, A: App, D: Definition, J: Naming, B: Begun> {
     txn: RoTxn<'a, A, Function<D>, J>,
     of: PhantomData<B>,
@@ -61,7 +62,8 @@ impl<'a, A: App, D: Definition, J: Naming, B: Begun> Model for PageTxn<'a, A, D,
 }
 
 impl<'a, A: App, D: Definition, J: Naming, B: Begun> PageTxn<'a, A, D, J, B> {
-    /// Begins the transaction of this client, with these bounds. Out of memory, the client is returned.
+    /// Begins the transaction of this client, with these bounds. If memory cannot be allocated, the client is
+    /// returned.
     #[tactic(auto, using(crate::proofs::Pages::none_called))]
     pub(crate) fn begin(
         rt: &impl Wait,
@@ -83,7 +85,7 @@ impl<'a, A: App, D: Definition, J: Naming, B: Begun> PageTxn<'a, A, D, J, B> {
         }
     }
 
-    /// The same with pins that the client keeps.
+    /// Begins the transaction with pins that the client keeps.
     #[tactic(auto, using(crate::proofs::Pages::none_called))]
     pub(crate) fn begin_keeping(
         rt: &impl Wait,
@@ -116,8 +118,8 @@ impl<'a, A: App, D: Definition, J: Naming, B: Begun> PageTxn<'a, A, D, J, B> {
         }
     }
 
-    /// The call's value: what it gives without a cache at every pin that remains. Where it is refused, the
-    /// answers are as before.
+    /// Returns the call's value: the uncached value at every pin that remains. If it fails, the results are as
+    /// before.
     #[tactic(auto, using(crate::proofs::Pages::one_called_more))]
     pub fn call(&mut self, rt: &impl Wait, alloc: Global, key: Key) -> Result<Value, TxnError>
         ensures answer { IfOk result (IsValueAtMembers A.next self.new.txn.core key) }
@@ -132,28 +134,28 @@ impl<'a, A: App, D: Definition, J: Naming, B: Begun> PageTxn<'a, A, D, J, B> {
         self.txn.call(rt, alloc, key)
     }
 
-    /// The pins where it may still be serialised, the newest first.
+    /// Returns the pins at which it may still be serialised, the newest first.
     pub fn members(&self) -> &[Pin]
         ensures { result.now ≡ self.now.txn.core.pins.members }
     {
         self.txn.members()
     }
 
-    /// Whether it may still be serialised at the present.
+    /// Returns `true` if it may still be serialised at the present.
     pub fn has_present(&self) -> bool
         ensures { result ≡ self.now.txn.core.pins.has_present }
     {
         self.txn.has_present()
     }
 
-    /// The calls that were answered, with their values, in order.
+    /// Returns the completed calls, with their values, in order.
     pub fn answers(&self) -> &[Recorded]
         ensures { result.now ≡ self.now.txn.core.recorded }
     {
         self.txn.answers()
     }
 
-    /// What it has seen of the history.
+    /// Returns a front of the history that it has seen.
     pub fn seen(&self) -> &HistoryFront
         ensures answer { result.now ≡ self.now.txn.core.seen }
         ensures row { result.now.events ≡ J.database_history }
@@ -161,7 +163,7 @@ impl<'a, A: App, D: Definition, J: Naming, B: Begun> PageTxn<'a, A, D, J, B> {
         self.txn.seen()
     }
 
-    /// What its pin set means. It does nothing when it runs.
+    /// Its pin set is correct in the history that it has seen. This is a lemma: it does nothing when it runs.
     pub fn is_kept(&self)
         ensures meant { IsTxn A.next self.now.txn }
         ensures idle { AllIdle self.now.txn.objects }
@@ -169,7 +171,7 @@ impl<'a, A: App, D: Definition, J: Naming, B: Begun> PageTxn<'a, A, D, J, B> {
         self.txn.is_kept();
     }
 
-    /// Ends the transaction, and returns what explains its answers, and the client.
+    /// Ends the transaction, and returns its receipt, and the client.
     #[tactic(auto, using(crate::proofs::Pages::explained_so, crate::proofs::Pages::not_before_so, crate::proofs::Pages::page_ran, crate::proofs::Pages::functions_left, crate::proofs::Pages::renew_after_left))]
     pub(crate) fn commit(self, rt: &impl Wait) -> (Receipt, Client<'a, A, Function<D>, J>)
         ensures answers { result.0.answers.items ≡ self.entry.txn.core.recorded }
@@ -186,7 +188,7 @@ impl<'a, A: App, D: Definition, J: Naming, B: Begun> PageTxn<'a, A, D, J, B> {
         txn.commit(rt)
     }
 
-    /// Gives the transaction up, and returns the client.
+    /// Aborts the transaction, and returns the client.
     #[tactic(auto, using(crate::proofs::Pages::page_ran, crate::proofs::Pages::functions_left, crate::proofs::Pages::renew_after_left))]
     pub(crate) fn abort(self, rt: &impl Wait) -> Client<'a, A, Function<D>, J>
         ensures ran { IsPageRun A.next J.database_history J.node_histories B.client B.bounds

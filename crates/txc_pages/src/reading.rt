@@ -1,4 +1,4 @@
-//! The reading of pages.
+//! Reading pages.
 ghost use Rattle.std.specs.Prelude.{◌≡◌, [], IfErr, IfOk, IsOk, OnOk};
 ghost use Rattle.txc_client.specs.Kept.{AreKept};
 ghost use Rattle.txc_client.specs.Ports.{HaveGrown};
@@ -19,14 +19,15 @@ use txc_definition::{Definition, Function};
 use txc_ports::Bounds;
 use txc_txn::Receipt;
 
-/// What a page gave, with the receipt of its transaction.
+/// The content of a page, with the receipt of its transaction.
 #[derive(Drop)]
 pub struct Shown<T> {
     pub output: T,
     pub receipt: Receipt,
 }
 
-/// Runs the page in a transaction of its own.
+/// Runs the page in a transaction of its own, and returns its content and its receipt, and the client. If the
+/// page fails, its transaction is aborted.
 pub fn read_page<'a, A: App, D: Definition, J: Naming, P: Page<A, D>, R: Wait>(
     rt: &R,
     alloc: Global,
@@ -55,8 +56,8 @@ pub fn read_page<'a, A: App, D: Definition, J: Naming, P: Page<A, D>, R: Wait>(
     read_begun::<A, D, J, P, Brand, R>(rt, alloc, client, bounds, page)
 }
 
-/// Runs the page in a transaction of its own, which begins with those of the kept pins that its bounds allow; or,
-/// where these may not be used, with others, which are kept from then on.
+/// Runs the page in a transaction of its own, which begins with those of the kept pins that its bounds allow.
+/// If these may not be used, it begins with others, which are kept from then on.
 pub fn read_page_keeping<'a, A: App, D: Definition, J: Naming, P: Page<A, D>, R: Wait>(
     rt: &R,
     alloc: Global,
@@ -89,7 +90,7 @@ pub fn read_page_keeping<'a, A: App, D: Definition, J: Naming, P: Page<A, D>, R:
     read_begun_keeping::<A, D, J, P, Brand, R>(rt, alloc, client, bounds, kept, page)
 }
 
-/// The same of a client and bounds that are the named ones.
+/// Runs the page with kept pins, for the named client and bounds.
 #[tactic(auto, using(crate::proofs::Pages::none_have_grown, crate::proofs::Pages::page_refused))]
 fn read_begun_keeping<'a, A: App, D: Definition, J: Naming, P: Page<A, D>, B: Begun, R: Wait>(
     rt: &R,
@@ -129,7 +130,7 @@ fn read_begun_keeping<'a, A: App, D: Definition, J: Naming, P: Page<A, D>, B: Be
     (shown, client, kept)
 }
 
-/// The same of a client and bounds that are the named ones.
+/// Runs the page for the named client and bounds.
 fn read_begun<'a, A: App, D: Definition, J: Naming, P: Page<A, D>, B: Begun, R: Wait>(
     rt: &R,
     alloc: Global,
@@ -161,7 +162,7 @@ fn read_begun<'a, A: App, D: Definition, J: Naming, P: Page<A, D>, B: Begun, R: 
     shown_in(rt, alloc, begun, page)
 }
 
-/// Shows the page in its transaction, where that has begun.
+/// Runs the page in its transaction, if that has begun.
 #[tactic(auto, using(crate::proofs::Pages::none_have_grown, crate::proofs::Pages::page_refused))]
 fn shown_in<'a, A: App, D: Definition, J: Naming, P: Page<A, D>, B: Begun, R: Wait>(
     rt: &R,

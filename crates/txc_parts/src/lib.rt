@@ -1,4 +1,5 @@
-//! A `Box` with its fields in sight, for a type that keeps what it owns behind a pointer of another type.
+//! A `Box` taken apart into its pointer and its allocator, for a type that keeps what it owns behind a pointer
+//! of another type.
 #![tactic(auto)]
 
 mod parts;

@@ -1,9 +1,9 @@
 //! A pool of permits, of which at most a fixed number are out at once.
 //!
-//! One word counts the permits that are out. A [`Grant`] is a permit that is out from the [`PermitPool::grant`]
-//! that gave it until it is given back, on whichever threads; no code can forget it. A [`Permit`] gives its own
-//! back as it is dropped. No call waits, and only `new` takes memory. That a permit is had where one is left is not
-//! claimed.
+//! One word counts the permits that are out. A [`Grant`] is a permit from the [`PermitPool::grant`] that issued
+//! it until it is returned, on any thread; it is linear: code that drops it does not compile. A [`Permit`]
+//! returns its own when it is dropped. No call waits, and only `new` allocates. That a permit is issued
+//! whenever one is left is not claimed.
 #![tactic(auto)]
 
 mod place;

@@ -3,13 +3,13 @@ ghost use Rattle.std.specs.Prelude.{◌≡◌, false};
 use crate::word::{SeatOneMore, Word};
 use atomic_table::Seat;
 
-/// A seat at a pool's word. It may be let go only without a permit, so that none is forgotten.
+/// A seat at a pool's word. It may be dropped only without a permit, so that none is lost.
 pub(crate) struct Place {
     pub(crate) seat: Seat<(), bool>,
 }
 
 impl Place {
-    /// Another place at the same word.
+    /// Makes another place at the same word.
     pub(crate) fn split(&mut self, word: &Word) -> Place
         requires table { (self.old.seat.table_id ≡ word.now.shared.table_id)
             × (word.now.shared.table_id.words ≡ 1) }

@@ -10,10 +10,10 @@ use std::sync::Arc;
 /// The most permits that a pool may have.
 pub const MAX_PERMITS: u64 = 1024;
 
-/// So often is a permit tried for. Where a try fails, another call took a permit or gave one back.
+/// Number of tries for a permit. A try fails if another call took or returned one meanwhile.
 const TRIES: u32 = 1024;
 
-/// A handle of a pool; a contract sees which pool it is, and how many permits that has.
+/// A handle of a pool. A contract sees which pool it is, and how many permits that has.
 pub struct PermitPool {
     most: u64,
     word: Arc<Word>,
@@ -32,8 +32,7 @@ impl Model for PermitPool {
     ghost invariant = { λ p. IsAt (arc_value p.word).shared.table_id (arc_value p.word).shared.key p.place.seat.table_id p.most × (p.place.seat.me.0 ≡ false) };
 }
 
-/// A permit that cannot be let go: it is spent by [`Grant::give_back`] alone. A contract sees which pool it is
-/// of.
+/// A linear permit: only [`Grant::give_back`] consumes it. A contract sees which pool it is of.
 pub struct Grant {
     word: Arc<Word>,
     place: Place,
@@ -54,7 +53,7 @@ impl Model for Grant {
         × (g.place.seat.table_id ≡ (arc_value g.word).shared.table_id) × (g.place.seat.me.0 ≡ true) };
 }
 
-/// The right to run. Its drop gives it back to its pool; a contract sees which pool that is.
+/// A permit to run, which is returned to its pool when it is dropped. A contract sees which pool that is.
 pub struct Permit {
     grant: Grant,
 }
@@ -70,7 +69,7 @@ impl Model for Permit {
 }
 
 impl PermitPool {
-    /// A pool of so many permits, none of which is out.
+    /// Makes a pool of `most` permits, none of which is out. Fails only if memory cannot be allocated.
     pub fn new(alloc: Global, most: u64) -> Result<PermitPool, AllocError>
         requires some { 0 < most }
         requires limit { most ≤ MAX_PERMITS }
@@ -82,7 +81,7 @@ impl PermitPool {
         Ok(PermitPool { most, word, place })
     }
 
-    /// Another handle of the same pool. It takes no memory, and is refused only where the pool has as many
+    /// Makes another handle of the same pool. It does not allocate, and fails only if the pool has as many
     /// handles and permits as can be counted.
     pub fn share(&mut self) -> Result<PermitPool, AllocError>
         ensures same { IfOk result (λ other. other ≡ self.old) }
@@ -97,8 +96,8 @@ impl PermitPool {
         })
     }
 
-    /// A permit that its owner must give back. None where all are out; else only where more than a thousand others
-    /// are taken or given back meanwhile, or the pool has as many handles and permits as can be counted.
+    /// Takes a permit that its owner must return. Returns `None` if all are out, if more than a thousand others
+    /// are taken or returned meanwhile, or if the pool has as many handles and permits as can be counted.
     pub fn grant(&mut self) -> Option<Grant>
         ensures answer { IfSome result (λ grant. grant ≡ self.old.name) }
         ensures unchanged { self.new ≡ self.old }
@@ -125,7 +124,7 @@ impl PermitPool {
         None
     }
 
-    /// A permit that its drop gives back. None as with [`PermitPool::grant`].
+    /// Takes a permit that is returned when it is dropped. Returns `None` as [`PermitPool::grant`] does.
     pub fn take(&mut self) -> Option<Permit>
         ensures answer { IfSome result (λ permit. permit ≡ self.old.name) }
         ensures unchanged { self.new ≡ self.old }
@@ -136,7 +135,7 @@ impl PermitPool {
 }
 
 impl Grant {
-    /// Gives the permit back to its pool.
+    /// Returns the permit to its pool.
     pub fn give_back(self) {
         let Grant { word, mut place } = self;
         word.shared.fetch_sub::<Give>(&mut place.seat, 0, 1);

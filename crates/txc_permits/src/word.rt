@@ -1,8 +1,8 @@
-//! The word of a pool: what holds of it between any two steps, and what each step does.
+//! The word of a pool: its rule, which holds between any two steps, and its steps.
 use atomic_table::{Play, Split, Table, TableRule};
 use std::alloc::Global;
 
-/// The word is the number of seats that have a permit, and at most the pool's number of permits.
+/// The word is the number of seats with a permit, and at most the pool's number of permits.
 pub struct CountsPermits;
 
 impl TableRule<(), bool, u64> for CountsPermits {
@@ -14,7 +14,7 @@ impl TableRule<(), bool, u64> for CountsPermits {
     ghost first = { λ _. false };
 }
 
-/// One permit more is out.
+/// One more permit is out.
 pub(crate) struct Take;
 
 impl Play<(), bool> for Take {
@@ -23,7 +23,7 @@ impl Play<(), bool> for Take {
     ghost then = { takes_one };
 }
 
-/// One permit fewer is out.
+/// One fewer permit is out.
 pub(crate) struct Give;
 
 impl Play<(), bool> for Give {

@@ -1,4 +1,4 @@
--- What the calls of a pin set do.
+-- Effects of the calls of a pin set.
 use Rattle.std.specs.Prelude.{◌≡◌, ◌≢◌, ◌⊎◌, ◌↔◌, ℕ, ◌+◌, ◌<◌, true, List, [], ◌∷◌, All, Contains}
 use Rattle.txc_stamp.specs.Interval.{Interval, Holds}
 use Rattle.txc_cushion.specs.declared.pin.Pin.{Pin}
@@ -11,7 +11,7 @@ abbrev pub KeepsExactlyTheHeld : Type 0
 KeepsExactlyTheHeld = (p : PinSetValue) (reach : Interval) (pin : Pin)
     → Contains (narrowed reach p).members pin ↔ (Contains p.members pin × Holds reach pin.stamp)
 
--- with the pin of the present in its place, the members are those that were there and that pin
+-- after the present was replaced by its pin, the members are the old ones and that pin
 abbrev pub OnlyThePresentJoins : Type 0
 OnlyThePresentJoins = (p : PinSetValue) (new pin : Pin)
     → Contains (with_present new p).members pin ↔ ((pin ≡ new) ⊎ Contains p.members pin)
@@ -29,8 +29,8 @@ abbrev pub IsTooOld : ℕ → ℕ → List Pin → Type 0
 IsTooOld now renew_after members = (newest : Pin) × (older : List Pin) × (members ≡ newest ∷ older)
     × (newest.moment + renew_after < now)
 
--- the present is chosen where there is no member, or where it is there and the newest member is too old, and
--- nowhere else
+-- the present is chosen exactly if there is no member, or if the set has the present and the newest member is
+-- too old
 abbrev pub TakesThePresentWhenDue : Type 0
 TakesThePresentWhenDue = (p : PinSetValue) (now renew_after : ℕ)
     → (choice_of now renew_after p ≡ Present)

@@ -7,23 +7,23 @@ use Rattle.txc_cushion.specs.Pinning.{is_older, Falls}
 use Rattle.txc_pinset.specs.declared.choice.Choice.{Choice}
 use Rattle.txc_pinset.specs.declared.choice.Choice.TheVariants.{Present, At}
 
--- the members, the newest first, and whether the present is there too
+-- the members, the newest first, and whether the set has the present
 pub record PinSetValue : Type 0 where
   pub members : List Pin
   pub has_present : Bool
 
--- what is true of every pin set: its newest member stands first, and it has a member or the present
+-- invariant of a pin set: its members descend from the newest, and it has a member or the present
 pub record IsPinSet (p : PinSetValue) : Type 0 where
   pub falls : Falls p.members
   pub some : p.members ≡ [] → p.has_present ≡ true
 
--- a pin set in a list that has room for `space` members: while the present is there, there is room for its
+-- a pin set in a list that has room for `space` members: while the set has the present, there is room for its
 -- pin
 pub record IsHeld (p : PinSetValue) (space : ℕ) : Type 0 where
   pub set : IsPinSet p
   pub room : p.has_present ≡ true → length p.members < space
 
--- the pins that were handed out, and the present
+-- the issued pins, and the present
 abbrev pub begun_pin_set : List Pin → PinSetValue
 begun_pin_set pins = record { members = pins; has_present = true }
 
@@ -39,18 +39,18 @@ kept reach members = filter (is_held_by reach) members
 abbrev pub narrowed : Interval → PinSetValue → PinSetValue
 narrowed reach p = record { members = kept reach p.members; has_present = false }
 
--- the pin in the place of the present, as the newest member
+-- the present is replaced by its pin, as the newest member
 abbrev pub with_present : Pin → PinSetValue → PinSetValue
 with_present pin p = record { members = pin ∷ p.members; has_present = false }
 
--- of these members and the present: the present where there is no member, or where it is there and the moment
--- of the newest member is more than `renew_after` before `now`; else the newest member
+-- the choice among these members and the present: the present if there is no member, or if the set has it and
+-- the time of the newest member is more than `renew_after` before `now`; otherwise the newest member
 abbrev pub choice_among : ℕ → ℕ → Bool → List Pin → Choice
 choice_among now renew_after has_present [] = Present
 choice_among now renew_after has_present (newest ∷ older) =
     if has_present && is_older renew_after now newest then Present else At newest.stamp
 
--- where the next query runs
+-- the place of the next query
 abbrev pub choice_of : ℕ → ℕ → PinSetValue → Choice
 choice_of now renew_after p = choice_among now renew_after p.has_present p.members
 

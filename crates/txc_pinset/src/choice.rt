@@ -1,10 +1,10 @@
 use txc_stamp::Stamp;
 
-/// Where a query runs.
+/// The snapshot in which a query runs.
 #[derive(Clone, Copy, Debug, PartialEq, Eq)]
 pub enum Choice {
-    /// At the present, which is to be pinned first.
+    /// The present, which must be pinned first.
     Present,
-    /// At the stamp of the newest member.
+    /// The stamp of the newest member.
     At(Stamp),
 }

@@ -11,16 +11,16 @@ use txc_cushion::{Pin, Pins, pin_of};
 use txc_db::Pinned;
 use txc_stamp::{Reach, Stamp};
 
-/// The reach holds no member, so that none would remain.
+/// Error: the reach holds no member, so the set would be empty.
 #[derive(Clone, Copy, Debug, PartialEq, Eq, Error)]
-#[error("no stamp would remain")]
+#[error("the reach holds no stamp of the pin set")]
 pub struct WouldEmpty;
 
-/// The stamps at which a transaction may still be serialised. While it has seen nothing, the present is one
-/// of them, although it has no stamp yet.
+/// The stamps at which a transaction may still be serialised. As long as it has read nothing, the present is
+/// one of them, although it has no stamp yet.
 ///
-/// Contracts see the members, the newest first, and whether the present is there. A pin set is never empty:
-/// it has a member, or the present. Only [`PinSet::begin`] takes memory.
+/// Contracts see the members, the newest first, and whether the present is in the set. A pin set is never
+/// empty: it has a member, or the present. Only [`PinSet::begin`] allocates.
 #[derive(Drop)]
 pub struct PinSet {
     members: Vec<Pin>,
@@ -38,14 +38,14 @@ impl Model for PinSet {
     ghost invariant = { λ p. IsHeld (record { members = p.members.items; has_present = p.has_present }) (vec_capacity p.members) };
 }
 
-// Whether the reach holds the stamp of the pin.
+// Returns `true` if the reach holds the stamp of the pin.
 fn is_held(reach: Reach, pin: &Pin) -> bool
     ensures { result ≡ is_held_by reach pin.now }
 {
     reach.holds(pin.stamp)
 }
 
-// Whether the reach holds a member.
+// Returns `true` if the reach holds a member.
 fn holds_one(reach: Reach, members: &[Pin]) -> bool
     ensures { result ≡ list_any (is_held_by reach) members.now }
 {
@@ -62,7 +62,8 @@ fn keep_held(members: &mut Vec<Pin>, reach: Reach)
 impl PinSet {
     ghost use Rattle.txc_pinset.specs.Members.{begun_pin_set, narrowed, with_present, choice_of, AreBounds, IsPinSet};
 
-    /// The pins that were handed out, and the present. It makes room for the present's pin.
+    /// Makes a set of the issued pins and the present, with room for the present's pin. Fails only if memory
+    /// cannot be allocated.
     pub fn begin(alloc: Global, pins: &Pins) -> Result<PinSet, AllocError>
         ensures { IfOk result (λ set. set ≡ begun_pin_set pins.now.pins.items) }
     {
@@ -74,29 +75,29 @@ impl PinSet {
         })
     }
 
-    /// What holds of every pin set: the newest member stands first, and there is a member or the present. It
-    /// does nothing when it runs.
+    /// In every pin set the members descend from the newest, and there is a member or the present. This is a
+    /// lemma: it does nothing when it runs.
     pub fn is_pin_set(&self)
         ensures { IsPinSet self.now }
     {
         let _members = &self.members;
     }
 
-    /// Whether the present is there.
+    /// Returns `true` if the present is in the set.
     pub fn has_present(&self) -> bool
         ensures { result ≡ self.now.has_present }
     {
         self.has_present
     }
 
-    /// The members, the newest first.
+    /// Returns the members, the newest first.
     pub fn members(&self) -> &[Pin]
         ensures { result.now ≡ self.now.members }
     {
         &self.members
     }
 
-    /// The least and the greatest stamp of a member.
+    /// Returns the least and the greatest stamp of a member, or `None` if there is no member.
     pub fn bounds(&self) -> Option<(Stamp, Stamp)>
         ensures { MatchOption result (self.now.members ≡ []) (AreBounds self.now.members) }
     {
@@ -105,8 +106,8 @@ impl PinSet {
         Some((oldest.stamp, newest.stamp))
     }
 
-    /// Keeps the members that the reach holds, and drops the others and the present. Where no member would
-    /// remain, it changes nothing.
+    /// Keeps the members that the reach holds, and drops the others and the present. Fails, and changes
+    /// nothing, if no member would remain.
     pub fn narrow(&mut self, reach: Reach) -> Result<(), WouldEmpty>
         ensures after { OnOk result (self.new ≡ narrowed reach self.old) }
         ensures unchanged { OnErr result (self.new ≡ self.old) }
@@ -121,8 +122,9 @@ impl PinSet {
         }
     }
 
-    /// Where the next query runs: at the newest member, unless there is none or the present is there and the
-    /// newest member's moment is more than `renew_after` before `now`. All are in milliseconds.
+    /// Chooses where the next query runs: at the newest member. It chooses the present if there is no member,
+    /// or if the set has the present and the newest member's time is more than `renew_after` before `now`. All
+    /// are in milliseconds.
     pub fn choose(&self, now: u64, renew_after: u64) -> Choice
         ensures { result ≡ choice_of now renew_after self.now }
     {
@@ -138,7 +140,7 @@ impl PinSet {
         }
     }
 
-    /// Puts the pin of the present in the present's place, as the newest member.
+    /// Replaces the present by its pin, as the newest member.
     pub fn take_present(&mut self, pinned: &Pinned)
         requires present { self.old.has_present ≡ true }
         requires newest { All (λ m. m.stamp < pinned.now.stamp) self.old.members }

@@ -1,4 +1,4 @@
--- What the lines of a world's script are, in the words of their rules.
+-- The uniqueness of the faults of a world's lines.
 use Rattle.std.specs.Prelude.{ℕ, List}
 use Rattle.txc_script.specs.Words.{words_of}
 use Rattle.txc_words.specs.Faults.{WordsFault}

@@ -19,7 +19,7 @@ pub record HasEndedTxn (next : Next) (world : WorldValue) (actor : ℕ) (act : A
   pub taken : AreTaken next world steps replied end
   pub does : DoesEnd actor act steps replied (Replied reply)
 
--- the holds of stamps were taken away
+-- the stamps were unpinned
 pub record HasUnpinned (next : Next) (world : WorldValue) (stamps : List ℕ) (count : ℕ) (printed : Printed)
     (end : WorldValue) : Type 0 where
   pub steps : List Step
@@ -31,7 +31,7 @@ pub record HasUnpinned (next : Next) (world : WorldValue) (stamps : List ℕ) (c
 abbrev pub IsCutShort : Next → WorldValue → Task → WorldValue → Type 0
 IsCutShort next world task end = (end ≡ world) ⊎ TaskHasBegun next world task end
 
--- what a line asks for was done, and what is written of it was put after the text
+-- the line's request was done, and its text was appended
 pub record IsTaskDone (next : Next) (world : WorldValue) (task : Task) (end : WorldValue) (old new : List ℕ)
     (refused : Bool) : Type 0 where
   pub printed : Printed

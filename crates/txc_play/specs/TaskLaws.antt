@@ -1,4 +1,4 @@
--- What is written of the lines of a world's script, in the words of their rules.
+-- The sources of the text of a world's lines.
 use Rattle.std.specs.Prelude.{◌≡◌, ◌≢◌, ℕ, List, Some, slice_get}
 use Rattle.txc_app.specs.Eval.{Next}
 use Rattle.txc_shared.specs.Nodes.{NodeValue}
@@ -12,22 +12,22 @@ use Rattle.txc_play.specs.declared.printed.Printed.{Printed}
 use Rattle.txc_play.specs.declared.task.Task.{Task}
 use Rattle.txc_play.specs.declared.task.Task.TheVariants.{Pins, Counts}
 
--- What is written of a line that takes steps is said by their replies alone, whatever the world: where they are
--- the same, the same is written.
+-- The text of a line that takes steps depends only on their replies, not on the world: with the same replies
+-- the same is written.
 abbrev pub AreWrittenByReplies : Type 0
 AreWrittenByReplies = (next other : Next) (world elsewhere : WorldValue) (task : Task) (steps others : List Step)
     (replied : List Reply) (a b : Printed) → ((actor : ℕ) → task ≢ Pins actor)
     → ((node function : ℕ) → task ≢ Counts node function)
     → Does next world task steps replied a → Does other elsewhere task others replied b → a ≡ b
 
--- what is written of the pins of an actor's read-only transaction is said by its pin set
+-- the text of the pins of an actor's read-only transaction depends only on its pin set
 abbrev pub ArePinsWrittenByPinSet : Type 0
 ArePinsWrittenByPinSet = (next other : Next) (world elsewhere : WorldValue) (actor : ℕ) (r : ReadingValue)
     (a b : Printed) → slice_get world.actors actor ≡ Some (reads r)
     → slice_get elsewhere.actors actor ≡ Some (reads r) → ShowsMembers next world actor a
     → ShowsMembers other elsewhere actor b → printed_text a ≡ printed_text b
 
--- what is written of a function's counts is said by the records of the node
+-- the text of a function's counts depends only on the records of the node
 abbrev pub AreCountsWrittenByRecords : Type 0
 AreCountsWrittenByRecords = (world elsewhere : WorldValue) (node function : ℕ) (n other : NodeValue) (a b : Printed)
     → slice_get world.ports.nodes node ≡ Some n → slice_get elsewhere.ports.nodes node ≡ Some other

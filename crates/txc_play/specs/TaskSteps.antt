@@ -1,4 +1,4 @@
--- The steps that a line of a world's script stands for, and what is written of their replies.
+-- The steps of a line of a world's script, and the text of their replies.
 use Rattle.std.specs.Prelude.{◌≡◌, ℕ, zero, suc, Bool, true, false, List, [], ◌∷◌, ◌++◌, map, length, All, Option, Some, None, if◌then◌else◌, slice_get, MatchBool, MatchOption}
 use Rattle.txc_cushion.specs.declared.pin.Pin.{Pin}
 use Rattle.txc_app.specs.Eval.{Next}
@@ -23,9 +23,9 @@ use Rattle.txc_play.specs.declared.task.Task.TheVariants as tasks
 
 -- ---- steps and replies of a world
 
--- A step was taken and replied so. It leads from the one world to the other, as it was replied. A receipt and
--- a commit explain what was shown before it; and it is replied what is due. Where each has what is its own and
--- the step is tidy, each has so after it, and it loses no snapshot.
+-- A step was taken with this reply: the step leads from one world to the other, and the reply is the one due. A
+-- receipt or a commit explains the answers shown before it. If everyone has their own and the step is tidy,
+-- everyone has their own after it, and it loses no snapshot.
 pub record IsTaken (next : Next) (old : WorldValue) (step : Step) (reply : Reply) (new : WorldValue)
     : Type 0 where
   pub stepped : HasStepped next old step reply new
@@ -53,8 +53,8 @@ abbrev pub is_added : Reply → Bool
 is_added replies.Added = true
 is_added reply = false
 
--- the keeper pins, adds the pin and gives its user back; where the pin is not added its hold is taken away,
--- and why it was not is written
+-- the keeper pins, adds the pin and returns its user; if the addition fails, the pin's hold is released, and
+-- the cause is written
 abbrev pub DoesPin : ℕ → List Step → List Reply → Printed → Type 0
 DoesPin now steps (pinned ∷ []) printed =
     (stamp_in pinned ≡ None) × (steps ≡ Keeper (keeps.Pin now) ∷ []) × (printed ≡ Replied pinned)
@@ -65,14 +65,14 @@ DoesPin now steps (pinned ∷ added ∷ last ∷ []) printed =
     × (printed ≡ Replied (if is_added added then pinned else added))
 DoesPin now steps replied printed = ⊥
 
--- how a call has ended by a request, as it is written, or that there is no call; none where it goes on
+-- the end of a call by a request, as it is written, or that no call is open; none if the call continues
 abbrev pub ending_of : Reply → Option Printed
 ending_of (replies.Asked did None) = None
 ending_of (replies.Asked did (Some end)) = Some (Ended end)
 ending_of (replies.Ended end) = Some (Ended end)
 ending_of reply = Some (Replied reply)
 
--- the actor makes requests, and the call goes on after each but the last, which ends it
+-- the actor makes requests, and the call continues after each but the last, which ends it
 pub record DoesFinish (actor : ℕ) (steps : List Step) (replied : List Reply) (printed : Printed) : Type 0 where
   pub before : List Reply
   pub last : Reply
@@ -81,7 +81,7 @@ pub record DoesFinish (actor : ℕ) (steps : List Step) (replied : List Reply) (
   pub go_on : All (λ r. ending_of r ≡ None) before
   pub ends : ending_of last ≡ Some printed
 
--- after the end of a transaction that was replied so a hold is left, which one request takes away
+-- a hold remains after the end of a transaction with this reply, and one request releases it
 abbrev pub leaves_hold : Reply → Bool
 leaves_hold (replies.At stamp) = true
 leaves_hold (replies.Aborted (Some stamp)) = true
@@ -105,12 +105,12 @@ abbrev pub is_unpinned : Reply → Bool
 is_unpinned replies.Unpinned = true
 is_unpinned reply = false
 
--- what is written at the end of a tidy in which so many pins were taken out
+-- the text at the end of a tidy that retired this many pins
 abbrev pub tidied : ℕ → Reply → Printed
 tidied count (replies.Vacuumed horizon) = Tidied count horizon
 tidied count reply = Replied reply
 
--- the keeper takes the hold of each of the stamps away and then drops old versions; the first refusal ends it
+-- the keeper unpins each of the stamps and then drops old versions; the first error ends it
 abbrev pub DoesUnpin : List ℕ → ℕ → List Step → List Reply → Printed → Type 0
 DoesUnpin [] count steps (reply ∷ []) printed =
     (steps ≡ Keeper keeps.Vacuum ∷ []) × (printed ≡ tidied count reply)
@@ -128,8 +128,8 @@ DoesTidy now age (step ∷ steps) (reply ∷ replied) printed =
     (λ stamps. DoesUnpin stamps (length stamps) steps replied printed)
 DoesTidy now age steps replied printed = ⊥
 
--- what is shown of an actor's transaction: the stamps of the members of its pin set, the newest first, and
--- whether the present is there; it may still be serialised at each of these
+-- the text of an actor's transaction: the stamps of the members of its pin set, the newest first, and whether
+-- it has the present; it may still be serialised at each of these
 pub record AreShown (next : Next) (world : WorldValue) (actor : ℕ) (has_present : Bool) (stamps : List ℕ)
     : Type 0 where
   pub pins : List Pin
@@ -150,7 +150,7 @@ DoesPins next world actor printed =
     MatchOption (due_of_pins (slice_get world.told.actors actor)) (ShowsMembers next world actor printed)
     (λ refusal. printed ≡ Replied (replies.Refused refusal))
 
--- what the records of a node count for a function is written, or that there is no such node
+-- the counts of a function in the records of a node are written, or that there is no such node
 abbrev pub DoesCounts : WorldValue → ℕ → ℕ → Printed → Type 0
 DoesCounts world node function printed =
     MatchOption (slice_get world.ports.nodes node) (printed ≡ Replied (replies.Refused NoNode))
@@ -169,7 +169,7 @@ Does next world (tasks.Tidy now age) steps replied printed = DoesTidy now age st
 Does next world (tasks.Counts node function) steps replied printed =
     (steps ≡ []) × DoesCounts world node function printed
 
--- what a line asks for was done: its steps were taken, and this is written of them
+-- the line's request was done: its steps were taken, and this is written of them
 pub record TaskIsDone (next : Next) (world : WorldValue) (task : Task) (printed : Printed) (end : WorldValue)
     : Type 0 where
   pub steps : List Step
@@ -189,8 +189,8 @@ pub record TaskHasBegun (next : Next) (world : WorldValue) (task : Task) (end : 
 
 -- ---- the end of a run
 
--- each of the first actors gives up what it has open, in the middle of a call too, and then takes the hold away
--- that is left
+-- each of the first actors aborts its open transaction, even within a call, and then releases the hold that
+-- remains
 abbrev pub give_up_steps : ℕ → List Step
 give_up_steps zero = []
 give_up_steps (suc actor) = give_up_steps actor ++ Actor actor acts.Abort ∷ Actor actor acts.Request ∷ []

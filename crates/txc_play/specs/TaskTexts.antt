@@ -1,4 +1,4 @@
--- What is written of what lines of a world's script are answered.
+-- The texts of the results of a world's lines.
 use Rattle.std.specs.Prelude.{ℕ, Bool, true, false, ◌||◌, List, [], ◌∷◌, ◌++◌, Option, Some, None, Result, Ok, Err, is_err, codes, length, map, if◌then◌else◌}
 use Rattle.std.specs.Fmt.{decimal}
 use Rattle.std.specs.List.{flat_map, join_with_byte}
@@ -52,8 +52,8 @@ did_text dids.Kept = codes "kept"
 did_text dids.Dropped = codes "dropped"
 did_text (dids.Refused error) = codes "refused " ++ database_code error
 
--- what a port did, and behind it how the call ended, if it did; of a request that was refused and ended its
--- call the call's refusal alone
+-- the report of a port, then the end of the call, if it ended; of a failed request that ended its call, only
+-- the call's error
 abbrev pub asked_text : Did → Option (Result (List ℕ) TxnError) → List ℕ
 asked_text did None = did_text did
 asked_text (dids.Refused error) (Some end) = end_text end
@@ -91,7 +91,7 @@ world_reply_text (replies.Refused refusal) = codes "refused " ++ refusal_code re
 abbrev pub stamps_text : List ℕ → List ℕ
 stamps_text stamps = flat_map (λ s. codes " " ++ decimal s) stamps
 
--- what is written of a line, without its end
+-- the text of a line, without its line feed
 abbrev pub printed_text : Printed → List ℕ
 printed_text (Replied reply) = world_reply_text reply
 printed_text (Ended end) = end_text end
@@ -101,7 +101,7 @@ printed_text (Tidied count horizon) =
     codes "retired " ++ (decimal count ++ (codes " horizon " ++ decimal horizon))
 printed_text (Counted line) = function_line line.function line.counts
 
--- ---- whether it holds a refusal
+-- ---- texts that are refusals
 
 abbrev pub is_refused_end : Result (List ℕ) TxnError → Bool
 is_refused_end result = is_err result

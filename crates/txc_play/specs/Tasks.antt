@@ -1,4 +1,4 @@
--- What the lines of a world's script are, and what they ask for.
+-- The lines of a world's script, and their requests.
 use Rattle.std.specs.Prelude.{◌≡◌, ℕ, List, [], ◌∷◌, Option, Some, None, option_and_then, option_map}
 use Rattle.txc_world.specs.declared.step.Act.TheVariants as acts
 use Rattle.txc_world.specs.declared.step.Keep.TheVariants as keeps
@@ -15,12 +15,12 @@ use Rattle.txc_words.specs.Said.{SaysAfter, change_said, query_said}
 use Rattle.txc_play.specs.declared.task.Task.{Task}
 use Rattle.txc_play.specs.declared.task.Task.TheVariants as tasks
 
--- the actor or the node that the only word says
+-- the actor or the node that is the only value
 abbrev pub place_said : List Said → Option ℕ
 place_said (Number place ∷ []) = Some place
 place_said values = None
 
--- what a line of this name asks for that has this actor or node alone after it
+-- the request of a line of this name whose only word is this actor or node
 abbrev pub task_at : LineName → ℕ → Option Task
 task_at names.Rw actor = Some (tasks.One (Actor actor acts.BeginRw))
 task_at names.Step actor = Some (tasks.One (Actor actor acts.Request))
@@ -31,11 +31,11 @@ task_at names.Abort actor = Some (tasks.Abort actor)
 task_at names.Advance node = Some (tasks.One (Keeper (keeps.Advance node)))
 task_at name place = None
 
--- the keeper makes the change that words say
+-- the keeper makes the change of these values
 abbrev pub keeper_change : ChangeName → List Said → Option Task
 keeper_change name values = option_map (λ change. tasks.One (Keeper (keeps.Write change))) (change_said name values)
 
--- what a line of this name asks for, by what the words after it say
+-- the request of a line of this name, by the values of the words after it
 abbrev pub task_said : LineName → List Said → Option Task
 task_said names.Put values = keeper_change changes.Put values
 task_said names.Remove values = keeper_change changes.Remove values
@@ -64,7 +64,7 @@ task_said names.Abort values = option_and_then (task_at names.Abort) (place_said
 task_said names.Advance values = option_and_then (task_at names.Advance) (place_said values)
 task_said name values = None
 
--- what a line asks for that has this name and these words after it
+-- the request of a line with this name and these words after it
 pub record LineAsksFor (name : LineName) (words : List (List ℕ)) (task : Task) : Type 0 where
   pub values : List Said
   pub say : SaysAfter name words values

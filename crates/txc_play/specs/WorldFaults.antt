@@ -1,4 +1,4 @@
--- What is wrong with the words of a malformed line of a world's script.
+-- The fault of the words of a malformed line of a world's script.
 use Rattle.std.specs.Prelude.{◌≡◌, ◌⊎◌, ℕ, List, ◌∷◌}
 use Rattle.txc_script.specs.Excerpts.{excerpt_of}
 use Rattle.txc_script.specs.declared.line_fault.CommandFault.TheVariants.{Unknown}
@@ -6,7 +6,7 @@ use Rattle.txc_words.specs.declared.name.LineName.{LineName}
 use Rattle.txc_words.specs.Names.{name_text}
 use Rattle.txc_words.specs.Faults.{IsFaultAfter, WordsFault}
 
--- What is wrong with a line's words: the first is no line's name; else it is in the words after that name.
+-- The fault of a line's words: the first is no line's name; else it is in the words after that name.
 abbrev pub IsWorldFault : List (List ℕ) → WordsFault → Type 0
 IsWorldFault all fault =
     ((word : List ℕ) × (words : List (List ℕ)) × (all ≡ word ∷ words)

@@ -1,4 +1,4 @@
--- What a run does with the lines of a world's script.
+-- The effect of a run on the lines of a world's script.
 use Rattle.std.specs.Prelude.{ℕ, List, Option, Result}
 use Rattle.txc_settings.specs.declared.settings.Settings.{Settings}
 use Rattle.txc_app.specs.Eval.{Next}

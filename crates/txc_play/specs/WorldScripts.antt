@@ -1,4 +1,4 @@
--- Scripts of a world: what their lines ask for and what they give.
+-- Scripts of a world: the requests of their lines, and the results.
 use Rattle.std.specs.Prelude.{◌≡◌, ◌⊎◌, ℕ, List, [], ◌∷◌, ◌++◌}
 use Rattle.txc_app.specs.Eval.{Next}
 use Rattle.txc_script.specs.Kinds.{ScriptKind, no_closing}
@@ -16,8 +16,8 @@ abbrev pub BreaksOffTask : Next → WorldValue → List ℕ → WorldValue → T
 BreaksOffTask next s line end =
     (end ≡ s) ⊎ ((task : Task) × SpellsTask line task × TaskHasBegun next s task end)
 
--- A script of a world's lines, whose functions compute this: what a line asks for is done by steps, and
--- nothing comes after all lines.
+-- A script of a world's lines, over functions with this meaning: a line's request is done by steps, and nothing
+-- is written after all lines.
 abbrev pub world_script : Next → ScriptKind WorldValue Task Printed OwnFault
 world_script next = record {
   asks = λ s. SpellsTask;

@@ -1,5 +1,5 @@
-//! Runs of a world's scripts: what their lines ask for, the steps that those stand for, and what is written
-//! of the replies.
+//! Runs of a world's scripts: the tasks of their lines, the steps of these tasks, and the output of the
+//! replies.
 #![tactic(auto)]
 
 mod laws;
@@ -11,7 +11,6 @@ mod reading;
 mod refusing;
 mod script;
 mod task;
-mod texts;
 
 pub use laws::{a_line_of_a_world_is_written_one_way, nothing_is_wrong_with_a_good_line};
 pub use printed::Printed;

@@ -1,4 +1,4 @@
-//! What a reply means for the rest of its line.
+//! The meaning of a reply for the rest of its line.
 ghost use Rattle.std.specs.Prelude.{◌≡◌, Some, None, IfOk, IfErr};
 ghost use Rattle.txc_world.specs.declared.reply.Reply.{Reply};
 ghost use Rattle.txc_play.specs.TaskSteps.{ending_of, is_added, is_unpinned, leaves_hold, stamp_in, taken_out, tidied};
@@ -7,7 +7,7 @@ use crate::printed::Printed;
 use txc_stamp::Stamp;
 use txc_world::Reply;
 
-/// The stamp of the pin that was made, if one was.
+/// Returns the stamp of the pin that was made, if one was.
 pub fn stamp_in(reply: &Reply) -> Option<Stamp>
     ensures { result ≡ stamp_in reply.now }
 {
@@ -17,7 +17,7 @@ pub fn stamp_in(reply: &Reply) -> Option<Stamp>
     }
 }
 
-/// Whether the pin was added.
+/// Returns `true` if the pin was added.
 pub fn is_added(reply: &Reply) -> bool
     ensures { result ≡ is_added reply.now }
 {
@@ -27,7 +27,7 @@ pub fn is_added(reply: &Reply) -> bool
     }
 }
 
-/// How a call has ended, or that there is none; none where it goes on.
+/// Returns the end of a call, or that there is none, or `None` if the call continues.
 pub fn ending_of(reply: Reply) -> Option<Printed>
     ensures { result ≡ ending_of reply }
 {
@@ -41,7 +41,7 @@ pub fn ending_of(reply: Reply) -> Option<Printed>
     }
 }
 
-/// Whether a hold is left after the end of a transaction.
+/// Returns `true` if a hold is left after the end of a transaction.
 pub fn leaves_hold(reply: &Reply) -> bool
     ensures { result ≡ leaves_hold reply.now }
 {
@@ -52,7 +52,7 @@ pub fn leaves_hold(reply: &Reply) -> bool
     }
 }
 
-/// The stamps of the pins that were taken out, or else the reply.
+/// Returns the stamps of the pins that were removed, or otherwise the reply.
 pub fn taken_out(reply: Reply) -> Result<Vec<Stamp>, Reply>
     ensures some { IfOk result (λ stamps. reply ≡ Reply.Retired stamps) }
     ensures none { IfErr result (λ other. (other ≡ reply) × (taken_out reply ≡ None)) }
@@ -63,7 +63,7 @@ pub fn taken_out(reply: Reply) -> Result<Vec<Stamp>, Reply>
     }
 }
 
-/// Whether the hold was taken away.
+/// Returns `true` if the hold was removed.
 pub fn is_unpinned(reply: &Reply) -> bool
     ensures { result ≡ is_unpinned reply.now }
 {
@@ -73,7 +73,7 @@ pub fn is_unpinned(reply: &Reply) -> bool
     }
 }
 
-/// What is written at the end of a tidy in which so many pins were taken out.
+/// Returns the output at the end of a tidy that removed `count` pins.
 pub fn tidied(count: usize, reply: Reply) -> Printed
     ensures { result ≡ tidied count reply }
 {

@@ -17,13 +17,13 @@ use txc_script::{Script, Unanswered};
 use txc_words::OwnFault;
 use txc_world::World;
 
-/// Most lines take no more bytes, so that their text is not moved while it is written.
+/// Most lines need no more bytes, so their text is not moved while it is written.
 const USUAL_LINE: usize = 128;
 
 /// A script of a world's lines.
 pub struct WorldScript<A, C>(pub PhantomData<(A, C)>);
 
-/// Puts what is written of a line after the text. Returns whether it holds a refusal.
+/// Appends the output of a line. Returns whether it has a refusal.
 fn push_printed(alloc: Global, text: &mut Vec<u8>, printed: &Printed) -> Result<bool, AllocError>
     ensures text { OnOk result (text.new.items ≡ text.old.items ++ (printed_text printed.now ++ 10 ∷ [])) }
     ensures refusal { IfOk result (λ refused. refused ≡ is_refused_line printed.now) }
@@ -35,8 +35,7 @@ fn push_printed(alloc: Global, text: &mut Vec<u8>, printed: &Printed) -> Result<
     Ok(is_refused_line(printed))
 }
 
-/// Does what a line asks for, and puts what is written of it after the text. Returns whether that holds a
-/// refusal.
+/// Executes a task, and appends its output. Returns whether it has a refusal.
 fn do_task<A: App, C: Cacheable>(
     alloc: Global,
     world: &mut World<A, C>,

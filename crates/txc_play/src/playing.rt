@@ -15,15 +15,15 @@ use txc_script::{FunctionLine, FunctionNumber};
 use txc_stamp::Stamp;
 use txc_world::{Act, Keep, Reply, Step, World};
 
-/// Takes one step.
+/// Makes one step.
 fn take<A: App, C: Cacheable>(alloc: Global, world: &mut World<A, C>, step: Step) -> Reply
     ensures { IsTaken A.next world.old step result world.new }
 {
     world.step(alloc, &step)
 }
 
-/// The keeper pins the present and adds the pin, which no transaction uses then; where it is not added, its
-/// hold is taken away.
+/// Lets the keeper pin the present and add the pin, which no transaction uses. If it is not added, its hold is
+/// removed.
 fn pin_present<A: App, C: Cacheable>(alloc: Global, world: &mut World<A, C>, now: u64) -> Reply
     ensures { TaskIsDone A.next world.old (Task.Pin now) (Printed.Replied result) world.new }
 {
@@ -40,7 +40,7 @@ fn pin_present<A: App, C: Cacheable>(alloc: Global, world: &mut World<A, C>, now
     added
 }
 
-/// The actor makes requests until its call has ended.
+/// Lets the actor make requests until its call has ended.
 fn finish_call<A: App, C: Cacheable>(
     alloc: Global,
     world: &mut World<A, C>,
@@ -59,7 +59,7 @@ fn finish_call<A: App, C: Cacheable>(
     Err(AllocError) // no call makes so many requests
 }
 
-/// The actor ends its transaction so, and takes the hold away that is left then.
+/// Lets the actor end its transaction by this act, and remove the hold that is left.
 fn end_txn<A: App, C: Cacheable>(
     alloc: Global,
     world: &mut World<A, C>,
@@ -76,7 +76,7 @@ fn end_txn<A: App, C: Cacheable>(
     reply
 }
 
-/// The keeper takes the holds of these stamps away, and then drops the versions that nothing holds.
+/// Lets the keeper remove the holds of these stamps, and then drop the versions that no hold needs.
 fn unpin_all<A: App, C: Cacheable>(
     alloc: Global,
     world: &mut World<A, C>,
@@ -96,7 +96,7 @@ fn unpin_all<A: App, C: Cacheable>(
     Printed::Replied(reply)
 }
 
-/// The keeper takes the old pins out and their holds away, and drops the versions that nothing holds.
+/// Lets the keeper remove the old pins and their holds, and drop the versions that no hold needs.
 fn tidy_up<A: App, C: Cacheable>(
     alloc: Global,
     world: &mut World<A, C>,
@@ -112,14 +112,14 @@ fn tidy_up<A: App, C: Cacheable>(
     }
 }
 
-/// The stamps of the pins.
+/// Returns the stamps of the pins.
 fn stamps_of(alloc: Global, pins: &[Pin]) -> Result<Vec<Stamp>, AllocError>
     ensures { IfOk result (λ stamps. stamps.items ≡ map (λ p. p.stamp) pins.now) }
 {
     pins.iter().map(|pin| pin.stamp).collect(alloc)
 }
 
-/// Where the actor's transaction may be serialised.
+/// Returns the stamps at which the actor's transaction may be serialised.
 fn members_of<A: App, C: Cacheable>(
     alloc: Global,
     world: &World<A, C>,
@@ -136,7 +136,7 @@ fn members_of<A: App, C: Cacheable>(
     }
 }
 
-/// What is counted of a function at a node.
+/// Returns the counts of a function at a node.
 fn counts_at<A: App, C: Cacheable>(
     world: &World<A, C>,
     node: usize,
@@ -154,7 +154,7 @@ fn counts_at<A: App, C: Cacheable>(
     }
 }
 
-/// Takes the steps of a line, and returns what is written of it.
+/// Makes the steps of a line, and returns its output.
 pub fn play<A: App, C: Cacheable>(
     alloc: Global,
     world: &mut World<A, C>,
@@ -175,8 +175,8 @@ pub fn play<A: App, C: Cacheable>(
     }
 }
 
-/// Each actor gives up what it has open, by their numbers, and takes the hold away that is left then. Steps of
-/// an actor with nothing open are refused, and change nothing.
+/// Lets each actor abort its open transaction, in the order of their numbers, and remove the hold that is left.
+/// Steps of an idle actor fail, and change nothing.
 pub fn give_all_up<A: App, C: Cacheable>(alloc: Global, world: &mut World<A, C>)
     ensures given_up { HasGivenUp A.next world.old world.new }
     ensures closed { All (λ observed. observed ≡ idle) world.new.told.actors }

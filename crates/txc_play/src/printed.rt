@@ -1,21 +1,24 @@
-//! What a line of a world's script is answered.
+//! Outputs of the lines of a world's script.
+
+mod texts;
+
 use txc_node::Value;
 use txc_ports::TxnError;
 use txc_script::FunctionLine;
 use txc_stamp::Stamp;
 use txc_world::Reply;
 
-/// What a line is answered, as it is written.
+/// Output of a line.
 #[derive(Drop)]
 pub enum Printed {
-    /// What a step was replied.
+    /// The reply to a step.
     Replied(Reply),
-    /// How a call ended.
+    /// The result of a call.
     Ended(Result<Value, TxnError>),
-    /// Where a transaction may be serialised: whether at the present, and at these stamps.
+    /// The stamps at which a transaction may be serialised: whether the present is one, and these.
     Members(bool, Vec<Stamp>),
-    /// So many pins were taken out, and the horizon is this.
+    /// The number of removed pins, and the horizon.
     Tidied(usize, Stamp),
-    /// What is counted of a function at a node.
+    /// The counts of a function at a node.
     Counted(FunctionLine),
 }

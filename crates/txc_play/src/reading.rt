@@ -1,4 +1,4 @@
-//! What a line of a world's script asks for.
+//! Reading the tasks of a world's script.
 ghost use Rattle.std.specs.Prelude.{◌≡◌, IfOk, IfErr, option_and_then};
 ghost use Rattle.txc_script.specs.LineFaults.{IsWrong};
 ghost use Rattle.txc_script.specs.Words.{words_of};
@@ -15,7 +15,7 @@ use txc_world::{Act, Keep, Step};
 
 // ---- what the words after a line's name ask for, by what they say
 
-/// The one actor or node.
+/// Returns the single actor or node.
 fn place_of(said: &[Said<'_>]) -> Option<usize>
     ensures { result ≡ place_said said.now }
 {
@@ -28,7 +28,7 @@ fn place_of(said: &[Said<'_>]) -> Option<usize>
     }
 }
 
-/// Of a line of this name, which has one actor or node.
+/// Returns the task of a line of this name with one actor or node.
 fn task_at(name: LineName, place: usize) -> Option<Task>
     ensures { result ≡ task_at name place }
 {
@@ -44,7 +44,7 @@ fn task_at(name: LineName, place: usize) -> Option<Task>
     }
 }
 
-/// Of a line of this name, which is to have one actor or node.
+/// Returns the task of a line of this name, which needs one actor or node.
 fn placed(name: LineName, said: &[Said<'_>]) -> Option<Task>
     ensures { result ≡ option_and_then (task_at name) (place_said said.now) }
 {
@@ -54,7 +54,7 @@ fn placed(name: LineName, said: &[Said<'_>]) -> Option<Task>
     }
 }
 
-/// Of `pin`.
+/// Returns the task of `pin`.
 fn pin_of(said: &[Said<'_>]) -> Option<Task>
     ensures { result ≡ task_said LineName.Pin said.now }
 {
@@ -67,7 +67,7 @@ fn pin_of(said: &[Said<'_>]) -> Option<Task>
     }
 }
 
-/// Of `ro`.
+/// Returns the task of `ro`.
 fn ro_of(said: &[Said<'_>]) -> Option<Task>
     ensures { result ≡ task_said LineName.Ro said.now }
 {
@@ -92,7 +92,7 @@ fn ro_of(said: &[Said<'_>]) -> Option<Task>
     }
 }
 
-/// Of `session`.
+/// Returns the task of `session`.
 fn session_of(said: &[Said<'_>]) -> Option<Task>
     ensures { result ≡ task_said LineName.Session said.now }
 {
@@ -111,7 +111,7 @@ fn session_of(said: &[Said<'_>]) -> Option<Task>
     }
 }
 
-/// Of `call`.
+/// Returns the task of `call`.
 fn call_of(said: &[Said<'_>]) -> Option<Task>
     ensures { result ≡ task_said LineName.Call said.now }
 {
@@ -126,7 +126,7 @@ fn call_of(said: &[Said<'_>]) -> Option<Task>
     }
 }
 
-/// Of `sweep`.
+/// Returns the task of `sweep`.
 fn sweep_of(said: &[Said<'_>]) -> Option<Task>
     ensures { result ≡ task_said LineName.Sweep said.now }
 {
@@ -141,7 +141,7 @@ fn sweep_of(said: &[Said<'_>]) -> Option<Task>
     }
 }
 
-/// Of `tidy`.
+/// Returns the task of `tidy`.
 fn tidy_of(said: &[Said<'_>]) -> Option<Task>
     ensures { result ≡ task_said LineName.Tidy said.now }
 {
@@ -157,7 +157,7 @@ fn tidy_of(said: &[Said<'_>]) -> Option<Task>
     }
 }
 
-/// Of `counts`.
+/// Returns the task of `counts`.
 fn counts_of(said: &[Said<'_>]) -> Option<Task>
     ensures { result ≡ task_said LineName.Counts said.now }
 {
@@ -173,7 +173,7 @@ fn counts_of(said: &[Said<'_>]) -> Option<Task>
     }
 }
 
-/// Of `query`.
+/// Returns the task of `query`.
 fn keeper_query(said: &[Said<'_>]) -> Option<Task>
     ensures { result ≡ task_said LineName.Query said.now }
 {
@@ -188,7 +188,7 @@ fn keeper_query(said: &[Said<'_>]) -> Option<Task>
     }
 }
 
-/// Of `ask`.
+/// Returns the task of `ask`.
 fn actor_query(said: &[Said<'_>]) -> Option<Task>
     ensures { result ≡ task_said LineName.Ask said.now }
 {
@@ -203,7 +203,7 @@ fn actor_query(said: &[Said<'_>]) -> Option<Task>
     }
 }
 
-/// Of `put` or `remove`.
+/// Returns the task of `put` or `remove`.
 fn keeper_change(
     alloc: Global,
     name: ChangeName,
@@ -218,7 +218,7 @@ fn keeper_change(
     }
 }
 
-/// Of `write`.
+/// Returns the task of `write`.
 fn actor_change(alloc: Global, said: &[Said<'_>]) -> Result<Option<Task>, AllocError>
     requires { AreBodies said.now }
     ensures { IfOk result (λ task. task ≡ task_said LineName.Write said.now) }
@@ -238,7 +238,7 @@ fn actor_change(alloc: Global, said: &[Said<'_>]) -> Result<Option<Task>, AllocE
     }
 }
 
-/// Of a line of this name.
+/// Returns the task of a line of this name.
 fn task_of(alloc: Global, name: LineName, said: &[Said<'_>]) -> Result<Option<Task>, AllocError>
     requires { AreBodies said.now }
     ensures { IfOk result (λ task. task ≡ task_said name said.now) }
@@ -268,7 +268,7 @@ fn task_of(alloc: Global, name: LineName, said: &[Said<'_>]) -> Result<Option<Ta
 
 // ---- lines
 
-/// What the line asks for, or what is wrong with its words.
+/// Reads the task of the line, or returns the fault of its words.
 pub fn read_task(alloc: Global, line: &[u8]) -> Result<Task, Unanswered<OwnFault>>
     ensures answer { IfOk result (SpellsTask line.now) }
     ensures refused { IfErr result (IsWrong (IsWorldFault (words_of line.now))) }

@@ -1,4 +1,4 @@
-//! Whether what is written of a line holds a refusal.
+//! Refusals in the output of lines.
 ghost use Rattle.std.specs.Prelude.{◌≡◌};
 ghost use Rattle.txc_play.specs.TaskTexts.{is_refused_did, is_refused_end, is_refused_line, is_refused_reply};
 
@@ -34,7 +34,7 @@ fn is_refused_reply(reply: &Reply) -> bool
     }
 }
 
-/// Whether it holds a refusal.
+/// Returns `true` if the output has a refusal.
 pub fn is_refused_line(printed: &Printed) -> bool
     ensures { result ≡ is_refused_line printed.now }
 {

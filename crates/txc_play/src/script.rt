@@ -15,7 +15,7 @@ use txc_settings::Settings;
 use txc_words::OwnFault;
 use txc_world::{World, WorldSettings};
 
-/// The settings of a run's world.
+/// Returns the settings of a run's world.
 pub fn world_settings(settings: Settings) -> WorldSettings
     ensures { result ≡ world_settings settings }
 {
@@ -29,10 +29,10 @@ pub fn world_settings(settings: Settings) -> WorldSettings
 }
 
 /// Reads a script, and writes the replies to its lines: the keeper and the actors of the world, by their
-/// numbers, take steps. The status says what is wrong with a malformed line. However the run ends, each actor
-/// gives up then what it has open. A reader is read at most [`txc_script::MAX_READS`] times, where a read that
-/// was interrupted counts and is made again. One that has not reached its end by then is a read fault. The
-/// writer is flushed at the end.
+/// numbers, make steps. The status has the fault of a malformed line. However the run ends, each actor then
+/// aborts its open transaction. It reads the reader at most [`txc_script::MAX_READS`] times, where an
+/// interrupted read counts and is repeated; if it has not reached the end by then, that is a read fault. It
+/// flushes the writer at the end.
 pub fn run_world<A: App, C: Cacheable, R: Read, W: Write>(
     alloc: Global,
     world: &mut World<A, C>,

@@ -1,28 +1,28 @@
-//! What the lines of a world's script ask for.
+//! Tasks: the meanings of the lines of a world's script.
 use txc_script::FunctionNumber;
 use txc_world::Step;
 
-/// What a line asks for.
+/// The meaning of a line.
 #[derive(Drop)]
 pub enum Task {
     /// This step; its reply is written.
     One(Step),
-    /// The keeper pins the present, adds the pin and gives its user back.
+    /// The keeper pins the present, adds the pin and removes its user.
     Pin(u64),
     /// Requests of the actor's open call, until it has ended.
     Finish(usize),
-    /// Where the actor's transaction may be serialised. It takes no step.
+    /// The stamps at which the actor's transaction may be serialised. It makes no step.
     Pins(usize),
-    /// The actor ends its transaction, and makes the request that is left then.
+    /// The actor ends its transaction, and makes the remaining request.
     Commit(usize),
-    /// The actor gives its transaction up, and makes the request that is left then.
+    /// The actor aborts its transaction, and makes the remaining request.
     Abort(usize),
-    /// The keeper takes the old pins out and their holds away, and drops the versions that nothing holds.
+    /// The keeper removes the old pins and their holds, and drops the versions that no hold needs.
     Tidy {
         now: u64,
         age: u64,
     },
-    /// What is counted of a function at the node of that number. It takes no step.
+    /// The counts of a function at the node of that number. It makes no step.
     Counts {
         node: usize,
         function: FunctionNumber,

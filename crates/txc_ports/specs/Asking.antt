@@ -1,4 +1,4 @@
--- What a transaction may ask of the ports, and what they answer.
+-- Requests that a transaction may make at the ports, and their replies.
 use Rattle.std.specs.Prelude.{◌≡◌, ℕ, ◌<◌, ◌≤◌, Some, Ok}
 use Rattle.std.specs.Option.{ForSome}
 use Rattle.txc_stamp.specs.Interval.{Holds}
@@ -18,8 +18,8 @@ use Rattle.txc_ports.specs.Exchanges as exchanges
 use Rattle.txc_ports.specs.Fronts.{front_of_reply}
 use Rattle.txc_ports.specs.Turns.{PortTurn}
 
--- what may be asked of ports with so many nodes: to add a pin of the row, what a node that there is has, and to
--- keep only an entry that is true in the history
+-- allowed requests at ports with `nodes` nodes: to add a pin of the history, to look up at an existing node,
+-- and to insert only an entry that is true in the history
 abbrev pub MayAsk : Next → Name → ℕ → History → PortRequest → Type 0
 MayAsk next row nodes L (requests.Pin now at_least) = Unit {0}
 MayAsk next row nodes L (requests.AddPin pinned) = pinned.front.events ≡ row
@@ -28,13 +28,13 @@ MayAsk next row nodes L (requests.Lookup node key lo hi) = node < nodes
 MayAsk next row nodes L (requests.Query query stamp) = Unit {0}
 MayAsk next row nodes L (requests.Insert node entry) = (node < nodes) × IsTrueIn next L entry
 
--- what was found for the query at the stamp, over a reach that holds it
+-- the answer to the query at the stamp, over a reach that holds it
 pub record IsFoundOver (L : History) (query : Query) (stamp : ℕ) (found : Found) : Type 0 where
   pub around : Holds found.reach stamp
   pub rows : RowsHold L query found.rows.items (Some found.reach) found.tags
 
--- The reply is right in the history that it shows. It is a pin of that moment, late enough; or the pin that was to
--- be added. What a node has is true of the call, and what was found is the answer of the query.
+-- The reply is correct in the history that it shows. It is a pin of that time, late enough; or the pin to be
+-- added. A node's entry is true of the call, and the answer is the query's.
 abbrev pub IsAnsweredRight : Next → Exchange → Type 0
 IsAnsweredRight next (exchanges.Pin now at_least (Ok pinned)) = (pinned.moment ≡ now) × (at_least ≤ pinned.stamp)
     × (moment_at pinned.front.history pinned.stamp ≡ Some pinned.moment)
@@ -49,7 +49,7 @@ IsAnsweredRight next exchange = Unit {0}
 abbrev pub IsReplyTo : Next → PortRequest → PortReply → Type 0
 IsReplyTo next request reply = IsExchange (IsAnsweredRight next) request reply
 
--- a pin that is to be added comes with such a front
+-- a pin that will be added has such a front
 abbrev pub AddsSuch : (FrontValue → Type 0) → PortRequest → Type 0
 AddsSuch P (requests.AddPin pinned) = P pinned.front
 AddsSuch P request = Unit {0}
@@ -59,6 +59,6 @@ abbrev pub TurnAddsSuch : (FrontValue → Type 0) → PortTurn → Type 0
 TurnAddsSuch P (Ask request) = AddsSuch P request
 TurnAddsSuch P turn = Unit {0}
 
--- what the reply shows is of the row
+-- the history in the reply is the named one
 abbrev pub IsOfRow : Name → PortReply → Type 0
 IsOfRow row reply = ForSome (front_of_reply reply) (λ front. front.events ≡ row)

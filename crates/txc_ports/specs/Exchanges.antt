@@ -15,7 +15,7 @@ use Rattle.txc_ports.specs.declared.request.PortRequest.TheVariants as requests
 use Rattle.txc_ports.specs.declared.reply.PortReply.{PortReply}
 use Rattle.txc_ports.specs.declared.reply.PortReply.TheVariants as replies
 
--- a request, and a reply of its kind: what was asked, and after it what was answered
+-- a request, and a reply of its kind
 pub data Exchange : Type 0 where
   Pin : ℕ → ℕ → Result Pinned DbError → Exchange
   AddPin : Pinned → Pinned → Result (Unit {0}) AddError → Exchange

@@ -1,10 +1,10 @@
--- What a reply shows of the history.
+-- The history in a reply.
 use Rattle.std.specs.Prelude.{Option, Some, None, Ok}
 use Rattle.txc_db.specs.Seen.{FrontValue}
 use Rattle.txc_ports.specs.declared.reply.PortReply.{PortReply}
 use Rattle.txc_ports.specs.declared.reply.PortReply.TheVariants.{Pin, AddPin, Lookup, Query}
 
--- the front beside what a port answered; none where it answered nothing that a history shows
+-- the front in a port's reply; none if the reply has none
 abbrev pub front_of_reply : PortReply → Option FrontValue
 front_of_reply (Pin (Ok pinned)) = Some pinned.front
 front_of_reply (AddPin pinned added) = Some pinned.front

@@ -1,4 +1,4 @@
--- The refusals of calls and ports, as the caller of a transaction gets them.
+-- Errors of calls and ports, as the caller of a transaction gets them.
 use Rattle.txc_call.specs.declared.error.CallError.{CallError}
 use Rattle.txc_call.specs.declared.error.CallError.TheVariants as calls
 use Rattle.txc_cushion.specs.declared.error.AddError.{AddError}
@@ -9,7 +9,7 @@ use Rattle.txc_ports.specs.declared.error.TxnError.{TxnError}
 use Rattle.txc_ports.specs.declared.error.TxnError.TheVariants.{Call, Database, SnapshotLost, PinsFull}
 use Rattle.txc_ports.specs.declared.error.TxnError.TheVariants.{Memory}
 
--- of a call: itself, but that a growth of its own which was refused is one of the transaction
+-- of a call: itself, except that its own failed allocation is one of the transaction
 abbrev pub refused_call : CallError → TxnError
 refused_call calls.Memory = Memory
 refused_call cause = Call cause
@@ -20,7 +20,7 @@ refused_request (database.SnapshotGone horizon) = SnapshotLost horizon
 refused_request database.Memory = Memory
 refused_request cause = Database cause
 
--- of a pin that was to be added: there is no room for it
+-- of a pin to be added: it cannot be
 abbrev pub refused_pin : AddError → TxnError
 refused_pin adds.Full = PinsFull
 refused_pin (adds.Known stamp) = PinsFull

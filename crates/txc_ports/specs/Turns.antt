@@ -1,10 +1,10 @@
--- What a transaction does next.
+-- The next step of a transaction.
 use Rattle.std.specs.Prelude.{ℕ, List}
 use Rattle.txc_ports.specs.declared.request.PortRequest.{PortRequest}
 use Rattle.txc_ports.specs.declared.turn.Turn.{Turn}
 use Rattle.txc_ports.specs.declared.turn.Turn.TheVariants.{Ask}
 
--- of a call that asks ports
+-- of a call that makes port requests
 abbrev pub PortTurn : Type 0
 PortTurn = Turn PortRequest (List ℕ)
 

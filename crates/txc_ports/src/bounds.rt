@@ -2,8 +2,8 @@ ghost use Rattle.std.specs.Prelude.{◌≡◌};
 
 use txc_stamp::Stamp;
 
-/// How fresh the snapshot of a read-only transaction is: its pin's moment is no more than `staleness` before
-/// `now`, both in milliseconds, and its stamp is not below `at_least`.
+/// Limits of a read-only transaction's snapshot: the time of its pin is no more than `staleness` before `now`,
+/// both in milliseconds, and its stamp is at least `at_least`.
 #[derive(Clone, Copy, Debug, PartialEq, Eq)]
 pub struct Bounds {
     pub now: u64,
@@ -12,14 +12,14 @@ pub struct Bounds {
 }
 
 impl Bounds {
-    /// A pin that is not older than `staleness` at the moment `now`, both in milliseconds.
+    /// Limits the age of the snapshot to `staleness` at the wall-clock time `now`, both in milliseconds.
     pub fn fresh(now: u64, staleness: u64) -> Bounds
         ensures { result ≡ record { now = now; staleness = staleness; at_least = 0 } }
     {
         Bounds::fresh_since(now, staleness, Stamp::ZERO)
     }
 
-    /// The same, and no state before that stamp.
+    /// Limits its age in the same way, and its stamp to at least `at_least`.
     pub fn fresh_since(now: u64, staleness: u64, at_least: Stamp) -> Bounds
         ensures { result ≡ record { now = now; staleness = staleness; at_least = at_least } }
     {

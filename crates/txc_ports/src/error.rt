@@ -5,31 +5,30 @@ use std::alloc::AllocError;
 use std::fmt;
 use thiserror::Error;
 use txc_call::CallError;
-use txc_cushion::AddError;
+use txc_cushion::{AddError, MAX_PINS};
 use txc_db::DbError;
 use txc_stamp::Stamp;
 
-/// Why a call or a query of a transaction was refused. The transaction is open after it, and its answers are
-/// unchanged.
+/// Errors of a call or a query of a transaction. The transaction stays open, with its results so far.
 #[derive(Clone, Copy, Debug, PartialEq, Eq, Error)]
 pub enum TxnError {
-    /// The call itself was refused.
+    /// The call itself failed.
     #[error("{0}")]
     Call(CallError),
-    /// The database refused a query or a pin.
+    /// The database failed at a query or a pin.
     #[error("{0}")]
     Database(DbError),
-    /// The database keeps the snapshot no longer; its horizon is given.
-    #[error("the snapshot is gone: the horizon is {0}")]
+    /// The database no longer has the snapshot; its horizon is given.
+    #[error("the snapshot is gone: the oldest that can be read has the stamp {0}")]
     SnapshotLost(Stamp),
-    /// The pincushion did not take the pin of the present. The pin's event stands, and its hold was given
-    /// back.
-    #[error("the pincushion takes no pin")]
+    /// The pincushion did not take the pin of the present. The pin's event stays in the history, and its hold
+    /// was released.
+    #[error("the present cannot be pinned: the pincushion has {MAX_PINS} pins, or this stamp already")]
     PinsFull,
-    /// There are as many changes as a transaction keeps.
-    #[error("too many changes")]
+    /// The transaction has as many changes as it may buffer.
+    #[error("the transaction has as many changes as it may buffer")]
     BufferFull,
-    /// A growth was refused.
+    /// Memory cannot be allocated.
     #[error("out of memory")]
     Memory,
 }

@@ -1,10 +1,10 @@
 use txc_stamp::Reach;
 
-/// What a node keeps of an entry that it was given.
+/// Result of an insertion at a node.
 #[derive(Clone, Copy, Debug, PartialEq, Eq)]
 pub enum Kept {
-    /// The entry, over that reach.
+    /// The node stores the entry, over that reach.
     Stored(Reach),
-    /// The entry that it has of the same call and first stamp, which ends no earlier.
+    /// The node keeps the entry that it has of the same call and first stamp, which ends no earlier.
     Earlier,
 }

@@ -1,7 +1,7 @@
-//! What a transaction asks of the database, the pincushion and the nodes, one request at a time, and what it
-//! is answered. A refusal is an answer.
+//! Requests of a transaction to the database, the pincushion and the nodes, one at a time, and their replies.
+//! An error is a reply too.
 //!
-//! A transaction itself calls none of them. Whoever runs it makes each request and hands it the reply.
+//! A transaction itself calls none of them. Its runner makes each request and gives it the reply.
 #![tactic(auto)]
 
 mod bounds;

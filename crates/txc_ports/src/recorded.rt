@@ -1,7 +1,7 @@
 use txc_node::Value;
 use txc_tags::Key;
 
-/// A call that was answered, and its value.
+/// A completed call, and its value.
 #[derive(Debug, Drop)]
 pub struct Recorded {
     pub key: Key,

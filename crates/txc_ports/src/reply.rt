@@ -6,27 +6,27 @@ use txc_db::{Answered, DbError, HistoryFront, Pinned};
 use txc_node::Shown;
 use txc_validity::Found;
 
-/// What a port answered to the request of the same name.
+/// Reply of a port to the request of the same name.
 #[derive(Drop)]
 pub enum PortReply {
-    /// The pin, or why there is none.
+    /// The pin, or the error.
     Pin(Result<Pinned, DbError>),
-    /// Added, or why not; with the pin that was to be added.
+    /// The pin, and whether it was added.
     AddPin(Pinned, Result<(), AddError>),
-    /// The hold was taken away, or why not.
+    /// Success if the hold was removed, or the error.
     Unpin(Result<(), DbError>),
-    /// What the node has of the call, with the history in which it is true. A node that refuses has nothing.
+    /// The node's entry of the call, with the history in which it is true. A node that fails has none.
     Lookup(Option<Answered<Shown>>),
-    /// What the database found, with the history in which it holds, or why it was refused.
+    /// The database's answer, with the history in which it holds, or the error.
     Query(Result<Answered<Found>, DbError>),
-    /// What the node keeps. A node that refuses keeps nothing.
+    /// The result of the insertion. A node that fails stores nothing.
     Insert(Option<Kept>),
 }
 
 impl PortReply {
     ghost use Rattle.txc_ports.specs.Fronts.{front_of_reply};
 
-    /// What it shows of the history, if it shows any.
+    /// Returns the front of the history in the reply, if it has one.
     pub fn front(&self) -> Option<&HistoryFront>
         ensures { MatchOption result (front_of_reply self.now ≡ None)
             (λ front. front_of_reply self.now ≡ Some front.now) }

@@ -1,10 +1,10 @@
 use crate::error::TxnError;
 
-/// What a transaction does next, for a caller who waits for a `T`. It asks one `R` at a time.
+/// The next step of a transaction, for a caller that waits for a `T`. It makes one request `R` at a time.
 #[derive(Drop)]
 pub enum Turn<R, T> {
-    /// It asks this, and goes on with the reply.
+    /// It makes this request, and continues with the reply.
     Ask(R),
-    /// What it did has ended with this, or was refused. It is open as before.
+    /// The operation has ended with this result or error. The transaction is open as before.
     Ended(Result<T, TxnError>),
 }

@@ -1,11 +1,10 @@
--- What an object does, and what it asks.
+-- The state of an object, and its next step.
 use Rattle.std.specs.Prelude.{◌≡◌, ℕ, List, [], ◌∷◌, ◌++◌, Option, Some, None, unwrap_or}
 use Rattle.txc_app.specs.declared.ask.Ask.{Ask}
 use Rattle.txc_app.specs.declared.ask.Ask.TheVariants.{Query, Call, Done}
 use Rattle.txc_app.specs.declared.ask.Answer.{Answer}
 
--- what a function asks next, or gives, by its arguments and the answers so far; none where it refuses the
--- arguments
+-- the next step of a function, by its arguments and the answers so far; none if it does not take the arguments
 abbrev pub Says : Type 0
 Says = List ℕ → List Answer → Option Ask
 
@@ -14,7 +13,7 @@ pub record Activation : Type 0 where
   pub args : List ℕ
   pub answers : List Answer
 
--- what an object does: the activation that it runs, if it runs one, and the number of permits that it holds
+-- the state of an object: the activation that it runs, if it runs one, and the number of permits that it has
 pub record Activity : Type 0 where
   pub activation : Option Activation
   pub permits : ℕ
@@ -35,11 +34,11 @@ begun args = record { args = args; answers = [] }
 abbrev pub answered : Activation → Answer → Activation
 answered a x = record { args = a.args; answers = a.answers ++ x ∷ [] }
 
--- the activation that runs; where none does, one with no arguments
+-- the running activation; if there is none, one without arguments
 abbrev pub activation_in : Activity → Activation
 activation_in activity = unwrap_or activity.activation (begun [])
 
--- what an activation asks next, or gives
+-- the next step of an activation
 abbrev pub next_of : Says → Activation → Option Ask
 next_of says a = says a.args a.answers
 

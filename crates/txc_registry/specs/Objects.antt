@@ -1,4 +1,4 @@
--- What a registry holds: its objects in order, each by its number and what it does.
+-- The objects of a registry in order, each with its number and its state.
 use Rattle.std.specs.Prelude.{◌≡◌, ℕ, List, Option, Some, eqb, All, map, ◌<◌, length, slice_index, unwrap_or}
 use Rattle.std.specs.Map.{lookup, set_value}
 use Rattle.txc_app.specs.Eval.{Next}
@@ -8,7 +8,7 @@ use Rattle.txc_registry.specs.Activity.{Activation, Activity, activation_in, idl
 abbrev pub Objects : Type 0
 Objects = List (ℕ × Activity)
 
--- what the object of this number does, if there is one
+-- the state of the object of this number, if there is one
 abbrev pub activity_of : Objects → ℕ → Option Activity
 activity_of objects f = lookup (λ k. eqb k f) objects
 
@@ -34,7 +34,7 @@ AllIdle objects = All (λ o. o.1 ≡ idle) objects
 abbrev pub numbers_of : Objects → List ℕ
 numbers_of objects = map (λ o. o.0) objects
 
--- the number stands at two places
+-- the number is at two places
 abbrev pub HasTwice : ℕ → List ℕ → Type 0
 HasTwice f fs =
     (i : ℕ) × (j : ℕ) × (i < j) × (j < length fs) × (slice_index fs i ≡ f) × (slice_index fs j ≡ f)

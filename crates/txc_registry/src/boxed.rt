@@ -1,4 +1,4 @@
-//! A box is the function that it holds.
+//! A box acts as the function in it.
 use crate::cacheable::{Cacheable, CallFault};
 use txc_app::{Answer, Ask};
 

@@ -4,37 +4,37 @@ ghost use Rattle.txc_registry.specs.Activity.{Activity, Says, answered, activati
 use thiserror::Error;
 use txc_app::{Answer, Ask};
 
-/// Why an activation did not begin or go on.
+/// Errors of beginning or continuing an activation.
 #[derive(Clone, Copy, Debug, PartialEq, Eq, Error)]
 pub enum CallFault {
-    /// A growth was refused.
+    /// Memory cannot be allocated.
     #[error("out of memory")]
     Memory,
-    /// No permit was left.
-    #[error("no permit is left")]
+    /// No permit is left.
+    #[error("no permit to run a function is left")]
     Busy,
-    /// The function takes no such arguments.
-    #[error("the function takes no such arguments")]
+    /// The function does not take these arguments.
+    #[error("the function does not take these arguments")]
     Args,
 }
 
-/// A function of an application, as an object that is asked step by step.
+/// A function of an application, as an object that runs step by step.
 pub trait Cacheable: Drop {
     // The number of the function.
     ghost number: { Self → ℕ };
 
-    // What the object does. No call but those below changes it.
+    // The state of the object. Only the calls below change it.
     ghost activity: { Self → Activity };
 
-    // What the function asks next, or gives. No call changes it.
+    // The function's next step, by its arguments and answers: a request, or its value. No call changes it.
     ghost says: { Self → Says };
 
-    /// The number of the function.
+    /// Returns the number of the function.
     fn number(&self) -> u8
         ensures { result ≡ number self.now };
 
-    /// Begins an activation, and returns what the function asks first. It refuses these arguments, or else
-    /// may find no permit or no memory.
+    /// Begins an activation, and returns the function's first step. Fails if the function does not take the
+    /// arguments; otherwise only if there is no permit or no memory.
     fn begin(&mut self, args: &[u32]) -> Result<Ask, CallFault>
         requires idle { activity self.old ≡ idle }
         ensures answer { IfOk result (λ ask. next_of (says self.old) (begun args.now) ≡ Some ask) }
@@ -44,8 +44,8 @@ pub trait Cacheable: Drop {
         ensures same_number { number self.new ≡ number self.old }
         ensures same_meaning { says self.new ≡ says self.old };
 
-    /// Goes on with the answer to what was asked last, and returns what the function asks next. It is refused
-    /// where it is out of memory, and for no other reason; the answer is dropped then.
+    /// Continues with the answer to the last request, and returns the function's next step. Fails, and drops
+    /// the answer, only if memory cannot be allocated.
     fn resume(&mut self, answer: Answer) -> Result<Ask, CallFault>
         requires asking { IsAsking (says self.old) (activity self.old) }
         ensures answer { IfOk result (λ ask.
@@ -57,7 +57,7 @@ pub trait Cacheable: Drop {
         ensures same_number { number self.new ≡ number self.old }
         ensures same_meaning { says self.new ≡ says self.old };
 
-    /// Ends the activation, if there is one. The object frees its memory and gives its permit back.
+    /// Ends the activation, if there is one. The object frees its memory and returns its permit.
     fn release(&mut self)
         ensures after { activity self.new ≡ idle }
         ensures same_number { number self.new ≡ number self.old }

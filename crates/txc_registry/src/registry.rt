@@ -9,13 +9,13 @@ use std::marker::{Model, PhantomData};
 use thiserror::Error;
 use txc_app::{Answer, App, Ask};
 
-/// Two objects are of the function of this number.
+/// Error: two objects have the function of this number.
 #[derive(Clone, Copy, Debug, PartialEq, Eq, Error)]
-#[error("two objects are of the function {0}")]
+#[error("two functions have the number {0}")]
 pub struct Twice(pub u8);
 
-/// The objects that a client runs, at most one of each function of the application `A`. A contract sees them
-/// in order, each by its number and what it does.
+/// The objects that a client runs, at most one for each function of the application `A`. A contract sees them
+/// in order, each as its number and its state.
 #[derive(Drop)]
 pub struct Registry<A: App, C: Cacheable> {
     objects: Vec<C>,
@@ -31,20 +31,20 @@ impl<A: App, C: Cacheable> Model for Registry<A, C> {
 
     ghost view = { λ r. map (λ c. (C.number c, C.activity c)) r.objects.items };
 
-    // Each object says what the application says of its number, and no two have one number.
+    // Each object computes the application's function of its number, and no two have the same number.
     ghost invariant = { λ r.
         All (λ c. C.says c ≡ A.next.says (C.number c)) r.objects.items
         × IsDistinct eqb (map C.number r.objects.items) };
 }
 
-// The place of the object of this number.
+// Returns the place of the object of this number.
 fn place<C: Cacheable>(objects: &Vec<C>, f: u8) -> Option<usize>
     ensures { result ≡ position (λ c. C.number c == f) objects.now.items }
 {
     objects.iter().position(|c| c.number() == f)
 }
 
-// A number that two objects have, if there is one.
+// Returns a number that two objects have, if there is one.
 fn repeated<C: Cacheable>(objects: &Vec<C>) -> Option<u8>
     ensures some { IfSome result (λ f. HasTwice f (map C.number objects.now.items)) }
     ensures none { IsNone result → IsDistinct eqb (map C.number objects.now.items) }
@@ -58,7 +58,8 @@ fn repeated<C: Cacheable>(objects: &Vec<C>) -> Option<u8>
     None
 }
 
-/// Adds an object to those of a registry to be.
+/// Appends an object to the list for a new registry. Fails, and changes nothing but dropping the object, if
+/// memory cannot be allocated.
 pub fn enlist<A: App, C: Cacheable>(objects: &mut Vec<C>, object: C) -> Result<(), AllocError>
     requires idle { C.activity object ≡ idle }
     requires means { C.says object ≡ A.next.says (C.number object) }
@@ -74,7 +75,8 @@ pub fn enlist<A: App, C: Cacheable>(objects: &mut Vec<C>, object: C) -> Result<(
 }
 
 impl<A: App, C: Cacheable> Registry<A, C> {
-    /// The registry of these objects, which are the application's functions. Two of one number are refused.
+    /// Makes the registry of these objects, which are the application's functions. Fails if two of them have
+    /// the same number.
     pub fn new(objects: Vec<C>) -> Result<Registry<A, C>, Twice>
         requires idle { All (λ c. C.activity c ≡ idle) objects.items }
         requires means { All (λ c. C.says c ≡ A.next.says (C.number c)) objects.items }
@@ -92,14 +94,14 @@ impl<A: App, C: Cacheable> Registry<A, C> {
         })
     }
 
-    /// Whether it has an object of the function.
+    /// Returns `true` if it has an object of the function.
     pub fn has(&self, f: u8) -> bool
         ensures { IsTrue result ↔ IsSome (activity_of self.now f) }
     {
         place(&self.objects, f).is_some()
     }
 
-    /// Begins an activation of the function, and returns what it asks first.
+    /// Begins an activation of the function, and returns its first step. Fails as [`Cacheable::begin`] does.
     pub fn begin(&mut self, f: u8, args: &[u32]) -> Result<Ask, CallFault>
         requires idle { activity_of self.old f ≡ Some idle }
         ensures answer { IfOk result (λ ask. next_of (A.next.says f) (begun args.now) ≡ Some ask) }
@@ -114,7 +116,8 @@ impl<A: App, C: Cacheable> Registry<A, C> {
         object.begin(args)
     }
 
-    /// Goes on with the function's activation, and returns what it asks next.
+    /// Continues the function's activation, and returns its next step. Fails only if memory cannot be
+    /// allocated.
     pub fn resume(&mut self, f: u8, answer: Answer) -> Result<Ask, CallFault>
         requires asking { IsAskingAt A.next self.old f }
         ensures answer { IfOk result (λ ask.

@@ -1,19 +1,19 @@
 -- What the versions are after the current version of a table and id was replaced.
-use Rattle.std.proofs.Common.{◌≡◌, ◌≢◌, ℕ, ◌+◌, ◌<◌, ◌≤◌, ◌==◌, List, [], ◌∷◌, ◌++◌, map, filter, length, option_to_list, Bool, true, false, cond, ◌&&◌, Option, Some, None, is_none, refl, sym, ap, subst, ◌∙◌, append-nil, append_assoc, arith}
+use Rattle.std.proofs.Common.{◌≡◌, ◌≢◌, ℕ, ◌+◌, ◌<◌, ◌≤◌, List, [], ◌∷◌, ◌++◌, map, filter, option_to_list, true, false, cond, ◌&&◌, Option, Some, None, is_none, refl, sym, ap, subst, ◌∙◌, append-nil, append_assoc}
 use Rattle.std.proofs.lemmas.List.{map-append}
 use Rattle.std.specs.List.{AllByRecursion}
 use Rattle.std.specs.List.Sorted.{IsPermutation}
-use Rattle.std.proofs.lemmas.List.Sorted.{IsPermutation-refl, IsPermutation-trans, IsPermutation-sym, IsPermutation-map, IsPermutation-append_left, IsPermutation-append_right, IsPermutation-append_comm}
+use Rattle.std.proofs.lemmas.List.Sorted.{IsPermutation-trans, IsPermutation-sym, IsPermutation-map, IsPermutation-append_left, IsPermutation-append_comm}
 use Rattle.sqlite.specs.Tree.{IsAscending}
 use Rattle.sqlite_trees.proofs.ListLemmas.{all_weaker, all-append, all-permutation, filter_none}
 use Rattle.txc_stamp.specs.declared.stamp.TheConstants.{MOST_STAMP}
 use Rattle.txc_rows.specs.Values.{RowValue, IsRow}
 use Rattle.txc_rows.specs.States.{is_at}
-use Rattle.txc_rows.specs.Versions.{is_current, removed, put}
+use Rattle.txc_rows.specs.Versions.{removed, put}
 use Rattle.txc_rows.specs.Holdable.{IsStorable}
 use Rattle.txc_rows.specs.declared.placed.Placed.{Placed}
 use Rattle.txc_rows.specs.declared.version.Versioned.{Versioned}
-use Rattle.txc_rows.specs.Placed.{version_of, versions_by_place, has_key, closed_placed, new_placed, put_latest, put_replaced, HaveOwnPlaces, HaveOwnKeys, IsOneCurrent, AreBelow, AreWellPlaced, AreWritten, AreAll}
+use Rattle.txc_rows.specs.Placed.{version_of, versions_by_place, has_key, closed_placed, new_placed, put_latest, put_replaced, HaveOwnKeys, IsOneCurrent, AreBelow, AreWellPlaced, AreAll}
 use Rattle.txc_rows.specs.Slotted.{Moves}
 use Rattle.txc_rows.proofs.PlaceLemmas.{pairs_permuted, by_place_same, own_places_permuted}
 use Rattle.txc_rows.proofs.PutLemmas.{parts, one_turned, key_turned, ended_below, put_written, put_apart}

@@ -1,5 +1,5 @@
 -- Current versions in slots: what a change makes of them, and what is found in them.
-use Rattle.std.proofs.Common.{◌≡◌, ◌≢◌, ℕ, ◌+◌, ◌<◌, ◌≤◌, ◌==◌, List, [], ◌∷◌, ◌++◌, map, filter, length, option_to_list, Bool, true, false, cond, not, ◌&&◌, nat_le, Option, Some, None, is_none, refl, sym, ap, subst, ◌∙◌, append_assoc, length-append, arith}
+use Rattle.std.proofs.Common.{◌≡◌, ◌≢◌, ℕ, ◌+◌, ◌<◌, ◌≤◌, ◌==◌, List, [], ◌∷◌, ◌++◌, map, filter, length, option_to_list, Bool, true, false, cond, not, ◌&&◌, nat_le, Option, Some, None, is_none, refl, sym, ap, subst, ◌∙◌, length-append, arith}
 use Rattle.std.proofs.lemmas.Bool.Decides.{nat_tests}
 use borrow.Author.Tests.{eqb-true}
 use Rattle.std.specs.Option.{MatchOption}
@@ -7,13 +7,12 @@ use Rattle.std.specs.List.{flat_map, AllByRecursion}
 use Rattle.std.specs.List.Sorted.{IsPermutation, IsStrictlySortedBy}
 use Rattle.std.specs.Map.{keys_of, lookup}
 use Rattle.std.specs.Ordering.{nat_cmp, ordering_then, is_eq, is_le, is_lt}
-use Rattle.std.specs.declared.cmp.Ordering.TheVariants.{Equal}
 use Rattle.std.specs.BTreeMap.Range.{range_contains}
 use Rattle.std.specs.declared.ops.Bound.TheVariants.{Included}
 use Rattle.std.proofs.lemmas.List.{map-append, length-map}
 use Rattle.std.proofs.lemmas.List.Elements.{filter-append}
-use Rattle.std.proofs.lemmas.List.Sorted.{IsPermutation-refl, IsPermutation-trans, IsPermutation-sym, IsPermutation-map, IsPermutation-append_right}
-use Rattle.sqlite_trees.proofs.ListLemmas.{map-map, filter-map, filter_all, filter_none, filter_same, all_of, all_both, all_weaker, all-append, all-filter, all-map, all-permutation, flat_map-map, flat_map_same, IsPermutation-filter, IsPermutation-flat_map}
+use Rattle.std.proofs.lemmas.List.Sorted.{IsPermutation-trans, IsPermutation-sym, IsPermutation-map, IsPermutation-append_right}
+use Rattle.sqlite_trees.proofs.ListLemmas.{filter-map, filter_all, filter_none, filter_same, all_of, all_both, all_weaker, all-append, all-filter, all-map, all-permutation, flat_map-map, flat_map_same, IsPermutation-filter, IsPermutation-flat_map}
 use Rattle.txc_slots.specs.declared.slots.SlotKey.{SlotKey}
 use Rattle.txc_slots.specs.Slots.{key_cmp, is_key, held_at, held, Changes}
 use Rattle.txc_slots.proofs.SlotLemmas.{key_exact, key_itself, held_found}

@@ -1,4 +1,4 @@
--- The codes of refusals.
+-- The codes of errors.
 use Rattle.std.specs.Prelude.{ℕ, List, codes}
 use Rattle.txc_rows.specs.declared.store_error.StoreError.{StoreError}
 use Rattle.txc_rows.specs.declared.store_error.StoreError.TheVariants as store

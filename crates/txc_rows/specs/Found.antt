@@ -1,4 +1,4 @@
--- What is found of the versions for a query.
+-- The versions that are found for a query.
 use Rattle.std.specs.Prelude.{◌≡◌, ◌⊎◌, ◌<◌, ◌≤◌, ℕ, List, ◌++◌, Some, filter}
 use Rattle.std.specs.List.{AllByRecursion, Contains}
 use Rattle.std.specs.List.Sorted.{IsPermutation, IsSorted}
@@ -13,8 +13,8 @@ pub record Finds (q : Query) (vs found : List Versioned) : Type 0 where
 
 -- ---- at one stamp
 
--- w died nearer to the stamp than v, or at the same one. That is so if v died by the stamp, and w did so no earlier. It is so too
--- if they are of one table and id, v died after the stamp, and w did so no later.
+-- w died nearer to the stamp than v, or at the same one. That is so if v died by the stamp, and w did so no
+-- earlier. It is so too if they are of one table and id, v died after the stamp, and w did so no later.
 abbrev pub IsNearer : ℕ → Versioned → Versioned → Type 0
 IsNearer t w v = (d : ℕ) × (e : ℕ) × (v.died ≡ Some d) × (w.died ≡ Some e)
     × (((d ≤ e) × (e ≤ t)) ⊎ ((v.row.table ≡ w.row.table) × (v.row.id ≡ w.row.id) × (t < e) × (e ≤ d)))
@@ -23,7 +23,8 @@ IsNearer t w v = (d : ℕ) × (e : ℕ) × (v.died ≡ Some d) × (w.died ≡ So
 abbrev pub IsNeedless : ℕ → List Versioned → Versioned → Type 0
 IsNeedless t found v = (w : Versioned) × Contains found w × IsNearer t w v
 
--- of the versions whose rows the query asks for those are found, by id and birth, that are not needless
+-- among the versions whose rows the query selects, exactly those that matter at the stamp are found, by id and
+-- birth
 pub record FindsAround (q : Query) (t : ℕ) (vs found : List Versioned) : Type 0 where
   pub rest : List Versioned
   pub all : IsPermutation (filter (suits q) vs) (found ++ rest)

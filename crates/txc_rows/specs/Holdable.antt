@@ -14,7 +14,7 @@ pub record IsStorable (v : Versioned) : Type 0 where
   pub born : v.born ≤ MOST_STAMP
   pub died : (d : ℕ) → v.died ≡ Some d → d ≤ MOST_STAMP
 
--- of two versions of a table and id the one before has died
+-- of two versions of a table and id the earlier has died
 abbrev pub HasEnded : Versioned → Versioned → Type 0
 HasEnded v w = v.row.table ≡ w.row.table → v.row.id ≡ w.row.id → v.died ≢ None
 

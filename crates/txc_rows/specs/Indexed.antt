@@ -1,4 +1,4 @@
--- How replaced versions are found: words that only this crate's private functions promise.
+-- The index of replaced versions: definitions for this crate's private functions only.
 use Rattle.std.specs.Prelude.{ℕ, Bool, ◌<◌, ◌≤◌, ◌+◌, ◌-◌, ◌^◌, ◌&&◌, ◌==◌, nat_le, true, false, List, [], ◌∷◌, length, map, filter, option_to_list, Option, Some, None}
 use Rattle.std.specs.List.{flat_map, slice_get, AllByRecursion, Contains}
 use Rattle.std.specs.List.Sorted.{IsPermutation}
@@ -19,7 +19,7 @@ version_id x = x.version.row.id
 abbrev pub version_group : Placed → ℕ
 version_group x = x.version.row.group
 
--- the stamp of a death, and 0 where there is none
+-- the stamp of a death, or 0 if there is none
 abbrev pub stamp_or_zero : Option ℕ → ℕ
 stamp_or_zero None = 0
 stamp_or_zero (Some died) = died
@@ -60,7 +60,7 @@ dies_between low high v = nat_le low (death_of v) && nat_le (death_of v) high
 abbrev pub dies_within : Deaths → Spot → Bool
 dies_within d s = is_from d.number s && (nat_le d.low s.death && nat_le s.death d.high)
 
--- of the table, and with a key from the first to the last
+-- the spot has this table, and a key from the first to the last
 abbrev pub is_between : ℕ → ℕ → ℕ → Spot → Bool
 is_between table first last s = (s.table == table) && (nat_le first s.key && nat_le s.key last)
 
@@ -71,14 +71,14 @@ spot_suits (ByGroup table group) = is_between table group group
 spot_suits (All table) = λ s. s.table == table
 spot_suits (Range table first last) = is_between table first last
 
--- those of the two sets in which the query is looked up
+-- the set of the two in which the query is looked up
 abbrev pub spots_asked : Query → List Spot → List Spot → List Spot
 spots_asked (ById table id) ids groups = ids
 spots_asked (ByGroup table group) ids groups = groups
 spots_asked (All table) ids groups = ids
 spots_asked (Range table first last) ids groups = ids
 
--- the versions at the spots, where the first one has that number
+-- the versions at the spots, if the first version has that number
 abbrev pub picked : ℕ → List Placed → List Spot → List Placed
 picked first versions = flat_map (λ s. option_to_list (slice_get versions (s.number - first)))
 
@@ -95,7 +95,7 @@ has_one_key (ByGroup table group) = true
 has_one_key (All table) = false
 has_one_key (Range table first last) = false
 
--- none died before one that stands before it
+-- deaths ascend in the list
 abbrev pub DeathsRise : List Spot → Type 0
 DeathsRise [] = Unit {0}
 DeathsRise (s ∷ ss) = AllByRecursion (λ t. s.death ≤ t.death) ss × DeathsRise ss

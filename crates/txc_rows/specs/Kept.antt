@@ -1,4 +1,5 @@
--- What a connection over the table of last versions keeps: words that only this crate's private functions promise.
+-- Invariants of a connection over the table of last versions: only the contracts of this crate's private
+-- functions use them.
 use Rattle.std.specs.Prelude.{◌≡◌, ◌≤◌, ℕ, Bool, true, false, List, ◌++◌, map, filter, take, Result, Vec, OnOk, OnErr, IfOk}
 use Rattle.std.specs.declared.alloc.Global.{Global}
 use Rattle.sqlite.specs.declared.error.Error.{Error}
@@ -27,40 +28,40 @@ latest_in h = placed_all ((state over_memory h).now.trees 0)
 abbrev pub versions_of : List Placed → List Placed → List Versioned
 versions_of replaced latest = versions_by_place (latest ++ replaced)
 
--- no table is there
+-- the store has no table
 pub record HasNoTable (h : Held MemStore) : Type 0 where
   pub schema : (state over_memory h).now.schema ≡ no_schema
 
--- the table is there, and its rows are versions
+-- the store has the table, and its rows are versions
 pub record HasTable (h : Held MemStore) : Type 0 where
   pub schema : (state over_memory h).now.schema ≡ latest_schema
   pub latest : AreVersionRows ((state over_memory h).now.trees 0)
 
--- the table is there, and these are the versions in it
+-- the store has the table, and these are the versions in it
 pub record HasLatest (latest : List Placed) (h : Held MemStore) : Type 0 where
   pub table : HasTable h
   pub latest_are : latest_in h ≡ latest
 
--- the table is there, its versions can be held, and no transaction is under way
+-- the store has the table, its versions can be stored, and no transaction is open
 pub record IsKept (h : Held MemStore) : Type 0 where
   pub table : HasTable h
   pub idle : h.in_transaction ≡ false
   pub settled : (state over_memory h).committed ≡ (state over_memory h).now
   pub each : AllByRecursion (λ x. IsStorable x.version) (latest_in h)
 
--- the table is there, and with those that were replaced its versions are these by place
+-- the store has the table, and its versions and the replaced ones are these by place
 pub record HasWritten (versions : List Versioned) (next : ℕ) (replaced : List Placed) (h : Held MemStore) : Type 0 where
   pub table : HasTable h
   pub all : AreAll versions next replaced (latest_in h)
 
--- one statement of a transaction: it leaves what it should, or it is refused. What is committed stays.
+-- one statement of a transaction: it has its effect, or it fails. Committed data stay.
 pub record IsStep {X : Type 0} (Leaves : Held MemStore → Type 0) (old new : Held MemStore)
     (outcome : Result X Error) : Type 0 where
   pub leaves : OnOk outcome (Leaves new)
   pub inside : OnOk outcome (new.in_transaction ≡ true)
   pub base : (state over_memory new).committed ≡ (state over_memory old).committed
 
--- a call on the connection: it leaves such versions in the table, or it is refused and they are as they were
+-- a call on the connection: the table has such versions afterwards, or the call fails and they are as before
 pub record IsCall {X : Type 0} (Leaves : List Placed → Type 0) (old new : Held MemStore)
     (outcome : Result X Error) : Type 0 where
   pub kept : IsKept new
@@ -72,28 +73,28 @@ pub record IsSame (old new : Held MemStore) : Type 0 where
   pub kept : IsKept new
   pub trees : (state over_memory new).now.trees ≡ (state over_memory old).now.trees
 
--- ---- what is read
+-- ---- reads
 
 -- the row shows a version of the table
 pub record IsShown (table : ℕ) (r : Row) : Type 0 where
   pub is : r ≡ queried_columns (version_shown table r)
   pub version : IsStorable (version_shown table r)
 
--- the rows show the versions that the query asks for, in any order, and so many at most
+-- the rows show the versions that the query selects, in any order, and at most `most`
 pub record IsListing (q : Query) (most : ℕ) (versions : List Versioned) (rows : List Row) : Type 0 where
   pub each : AllByRecursion (IsShown (query_table q)) rows
   pub found : List Versioned
   pub same : IsPermutation (filter (suits q) versions) found
   pub first : map (version_shown (query_table q)) rows ≡ take most found
 
--- a reading for a query: the rows show the versions of the table that match, of those that did not die before a stamp,
--- so many at most, or it is refused. The table is as it was.
+-- A reading for a query: the rows show the versions of the table that match and did not die before a stamp, at
+-- most `most`; or it fails. The table is as before.
 pub record IsReading (q : Query) (from most : ℕ) (old new : Held MemStore) (outcome : Result (Vec Row Global) Error)
     : Type 0 where
   pub same : IsSame old new
   pub lists : IfOk outcome (λ rows. IsListing q most (left_from from (map version_of (latest_in old))) rows.items)
 
--- a reading of the versions that did not die before a stamp, or it is refused. The table is as it was.
+-- A reading of the versions that did not die before a stamp; or it fails. The table is as before.
 pub record IsLeaving (from : ℕ) (old new : Held MemStore) (outcome : Result (Vec Row Global) Error) : Type 0 where
   pub same : IsSame old new
   pub cells : IfOk outcome (λ rows. AllByRecursion AreCells rows.items)
@@ -116,7 +117,7 @@ pub record IsFinding (q : Query) (from : ℕ) (placed : List Placed) (old new : 
   pub same : IsPermutation (filter (suits q) (left_from from (map version_of placed))) more
   pub are : new ≡ old ++ more
 
--- Of these versions some were added to the found ones, and those that were not are needless at the stamp.
+-- Some of these versions were added to the found ones; the others do not matter at the stamp.
 pub record AddsAround (t : ℕ) (all old new : List Versioned) : Type 0 where
   pub more : List Versioned
   pub rest : List Versioned
@@ -131,8 +132,8 @@ pub record IsStore (next : ℕ) (replaced latest : List Placed) : Type 0 where
   pub apart : AreWellPlaced latest replaced
   pub below : AreBelow next (latest ++ replaced)
 
--- the store may write: its versions are as they were, and those that died at the stamp are not hidden. Or it is refused,
--- and the same versions are shown from the stamp from which they were.
+-- The store may write: its versions are as before, and those that died at the stamp are not hidden. Or it
+-- fails, and the same versions are shown from the same stamp on.
 pub record IsRoom (from stamp next : ℕ) (before old replaced new : List Placed) (outcome : Result ℕ Error) : Type 0 where
   pub store : IsStore next replaced new
   pub low : IfOk outcome (λ first. first ≤ stamp)

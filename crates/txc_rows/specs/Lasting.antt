@@ -1,4 +1,4 @@
--- Where last versions lie: words that only this crate's private functions promise.
+-- The storage of last versions: only the contracts of this crate's private functions use it.
 use Rattle.std.specs.Prelude.{⊤, List}
 use Rattle.txc_rows.specs.declared.latest.Kind.{Kind}
 use Rattle.txc_rows.specs.declared.latest.Kind.TheVariants.{Table, Slots}

@@ -1,4 +1,4 @@
--- What follows from the definitions of states, answers, net changes and versions.
+-- Laws of states, answers, net changes and versions.
 use Rattle.std.specs.Prelude.{ℕ, suc, ◌≡◌, ◌≢◌, ◌≤◌, ◌↔◌, ◌&&◌, ◌==◌, true, Bool, List, [], ◌++◌, map, false, Option, Some, None, if◌then◌else◌}
 use Rattle.std.specs.List.{list_any, flat_map, Contains}
 use Rattle.txc_tags.specs.declared.tag.Tag.{Tag}
@@ -23,7 +23,7 @@ StatesAreRows = (s u : State) → IsState s → IsState u → ((r : RowValue) �
 abbrev pub ChangedIsState : Type 0
 ChangedIsState = (changes : List Change) (s : State) → IsState s → IsState (after_changes changes s)
 
--- what a change makes of its table and id
+-- the row of a change's table and id after it
 abbrev pub made_by : Change → Option RowValue
 made_by (Put row) = Some row
 made_by (Remove table id) = None
@@ -48,7 +48,7 @@ abbrev pub NetLeads : Type 0
 NetLeads = (s : State) (changes : List Change) → IsState s
     → IsNet s (net_changes s changes) (after_changes changes s)
 
--- a table and id has a net change exactly where the states before and after differ
+-- a table and id has a net change exactly if the states before and after differ there
 abbrev pub NetIsDifference : Type 0
 NetIsDifference = (s : State) (changes : List Change) (table id : ℕ) → IsState s
     → (list_any (is_change_of table id) (net_changes s changes) ≡ true)
@@ -62,7 +62,7 @@ NetTags = (old new : State) (net : List Change) → IsState old → IsNet old ne
 
 -- ---- tags
 
--- where the tags between two states do not match a set that covers a query, its answer is the same in both
+-- if the tags between two states do not match a set that covers a query, its answer is the same in both
 abbrev pub TagsAreSound : Type 0
 TagsAreSound = (old new : State) (q : Query) (set : List Tag) → IsState old → IsState new
     → sets_match (tags_between old new) set ≡ false → covers_query set q ≡ true → answer q old ≡ answer q new
@@ -71,9 +71,9 @@ TagsAreSound = (old new : State) (q : Query) (set : List Tag) → IsState old �
 abbrev pub NoTagsBetween : Type 0
 NoTagsBetween = (s : State) → tags_between s s ≡ []
 
--- ---- versions that say states
+-- ---- versions that describe states
 
--- no versions say the empty state at stamp 0
+-- no versions describe the empty state at stamp 0
 abbrev pub SaysNothing : Type 0
 SaysNothing = (states : ℕ → State) → states 0 ≡ [] → SaysStates states 0 0 []
 
@@ -83,7 +83,8 @@ SaysAgree = (states others : ℕ → State) (horizon newest : ℕ) (vs : List Ve
     → ((t : ℕ) → horizon ≤ t → t ≤ newest → states t ≡ others t)
     → SaysStates states horizon newest vs → SaysStates others horizon newest vs
 
--- a write of net changes at the next stamp says the state that they lead to, and all those before it
+-- after a write of net changes at the next stamp the versions describe the state that they lead to, and all
+-- those before it
 abbrev pub SaysWritten : Type 0
 SaysWritten = (states : ℕ → State) (horizon newest : ℕ) (net : List Change) (vs : List Versioned)
     → horizon ≤ newest → states (suc newest) ≡ after_changes net (states newest)
@@ -96,7 +97,7 @@ SaysQuiet = (states : ℕ → State) (horizon newest : ℕ) (vs : List Versioned
     → states (suc newest) ≡ states newest → SaysStates states horizon newest vs
     → SaysStates states horizon (suc newest) vs
 
--- a purge leaves what is said from its horizon on
+-- a purge leaves the description of the states from its horizon on
 abbrev pub SaysPurged : Type 0
 SaysPurged = (states : ℕ → State) (horizon newest next : ℕ) (vs : List Versioned) → horizon ≤ next
     → SaysStates states horizon newest vs → SaysStates states next newest (purged next vs)
@@ -108,7 +109,7 @@ SaysAnswer = (q : Query) (t : ℕ) (vs found : List Versioned) (s : State) → I
     → ((v : Versioned) → Contains vs v → matches q v.row ≡ true → Contains found v)
     → IdsRise (shown_at q t found) → shown_at q t found ≡ answer q s
 
--- net changes of the newest state that versions say may be written over them at the next stamp
+-- net changes of the newest state that versions describe may be written over them at the next stamp
 abbrev pub NetIsWritable : Type 0
 NetIsWritable = (states : ℕ → State) (horizon newest : ℕ) (net : List Change) (vs : List Versioned)
     (new : State) → horizon ≤ newest → SaysStates states horizon newest vs → IsNet (states newest) net new

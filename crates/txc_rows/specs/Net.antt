@@ -25,7 +25,7 @@ abbrev pub key_before : Change → Change → Bool
 key_before c d = nat_lt (change_table c) (change_table d)
     || ((change_table c == change_table d) && nat_lt (change_id c) (change_id d))
 
--- a put of a row that is not there, or a removal of one that is
+-- a put of a row that is not in the state, or a removal of one that is
 abbrev pub changes_state : State → Change → Bool
 changes_state s (Put row) = not (has_row s row)
 changes_state s (Remove table id) = list_any (is_at table id) s
@@ -41,7 +41,7 @@ abbrev pub settled : List Change → List Change
 settled [] = []
 settled (c ∷ cs) = placed c (settled cs)
 
--- the last change of each key, by table and id, where it changes something
+-- the last change of each key, by table and id, if it changes something
 abbrev pub net_changes : State → List Change → List Change
 net_changes s changes = filter (changes_state s) (settled changes)
 

@@ -9,7 +9,7 @@ use Rattle.txc_rows.specs.Versions.{is_current, closed}
 use Rattle.txc_rows.specs.States.{RowValue, is_at}
 use Rattle.txc_rows.specs.Holdable.{IsStorable}
 
--- the version alone
+-- the version without its place
 abbrev pub version_of : Placed → Versioned
 version_of x = x.version
 
@@ -94,7 +94,7 @@ HaveOwnKeys = IsAscending (λ x y. has_key x.version.row.table x.version.row.id 
 abbrev pub AreBelow : ℕ → List Placed → Type 0
 AreBelow next = AllByRecursion (λ x. x.place < next)
 
--- where two are of one table and id, one at most is current
+-- of two versions of one table and id, at most one is current
 abbrev pub IsOneCurrent : Placed → Placed → Type 0
 IsOneCurrent x y = is_at x.version.row.table x.version.row.id y.version.row ≡ true → x.version.died ≡ None
     → y.version.died ≢ None
@@ -107,13 +107,12 @@ pub record AreWellPlaced (latest replaced : List Placed) : Type 0 where
   pub ended : AllByRecursion (λ x. x.version.died ≢ None) replaced
   pub each : AllByRecursion (λ x. IsStorable x.version) (latest ++ replaced)
 
--- the last versions after a put: the new one stands in place of the last of its table, id and group, or else at
--- the end
+-- the last versions after a put: the new one replaces the last of its table, id and group, or else is appended
 abbrev pub put_latest : ℕ → RowValue → ℕ → List Placed → List Placed
 put_latest place row stamp latest = if length (filter (has_key row.table row.id row.group) latest) == 0
     then latest ++ new_placed place row stamp ∷ [] else map (renewed place row stamp) latest
 
--- those that were replaced after it: that last one is one of them
+-- the replaced versions after it: that last one is among them
 abbrev pub put_replaced : RowValue → List Placed → List Placed → List Placed
 put_replaced row latest replaced = replaced ++ filter (has_key row.table row.id row.group) latest
 
@@ -127,7 +126,7 @@ pub record AreAll (versions : List Versioned) (next : ℕ) (replaced latest : Li
   pub apart : AreWellPlaced latest replaced
   pub written : AreWritten versions next (latest ++ replaced)
 
--- they are the same, or those alone that did not die before the stamp
+-- they are the same, or only those that did not die before the stamp
 abbrev pub AreSwept : ℕ → List Placed → List Placed → Type 0
 AreSwept from old new = (new ≡ old) ⊎ IsPermutation (placed_left from old) new
 
@@ -135,7 +134,7 @@ AreSwept from old new = (new ≡ old) ⊎ IsPermutation (placed_left from old) n
 abbrev pub AreAmong : List Placed → List Placed → Type 0
 AreAmong latest = AllByRecursion (λ x. Contains latest x)
 
--- the last versions of other tables and ids are there still
+-- the last versions of other tables and ids stay
 abbrev pub KeepsOthers : ℕ → ℕ → List Placed → List Placed → Type 0
 KeepsOthers table id old new = (x : Placed) → Contains old x → is_at table id x.version.row ≡ false → Contains new x
 

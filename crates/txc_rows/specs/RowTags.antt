@@ -15,7 +15,7 @@ query_tag (ByGroup table group) = group_tag table group
 query_tag (All table) = wildcard table
 query_tag (Range table first last) = wildcard table
 
--- a set covers a query where it covers its tag
+-- a set covers a query if it covers its tag
 abbrev pub covers_query : List Tag → Query → Bool
 covers_query set q = covers set (query_tag q)
 

@@ -1,4 +1,4 @@
--- How versions say states.
+-- Descriptions of states by versions.
 use Rattle.std.specs.Prelude.{ℕ, ◌≡◌, ◌≤◌, ◌<◌, List, [], ◌∷◌, Some}
 use Rattle.std.specs.List.{AllByRecursion, Contains}
 use Rattle.txc_rows.specs.States.{RowValue, State}
@@ -14,7 +14,7 @@ pub record VersionsSay (t : ℕ) (vs : List Versioned) (s : State) : Type 0 wher
 abbrev pub AreUpTo : ℕ → List Versioned → Type 0
 AreUpTo t = AllByRecursion (λ v. (v.born ≤ t) × ((d : ℕ) → v.died ≡ Some d → d ≤ t))
 
--- each state from the horizon to the newest stamp is said, and nothing has happened later
+-- each state from the horizon to the newest stamp is described, and no version is born or dies later
 pub record SaysStates (states : ℕ → State) (horizon newest : ℕ) (vs : List Versioned) : Type 0 where
   pub kept : (t : ℕ) → horizon ≤ t → t ≤ newest → VersionsSay t vs (states t)
   pub upto : AreUpTo newest vs

@@ -1,4 +1,4 @@
--- How current versions lie in slots: words that only this crate's private functions promise.
+-- The slots of current versions: definitions for this crate's private functions only.
 use Rattle.std.specs.Prelude.{◌≡◌, ◌==◌, ◌&&◌, nat_le, ℕ, Bool, true, false, List, ◌++◌, map, option_to_list, Option, None}
 use Rattle.std.specs.List.{AllByRecursion}
 use Rattle.std.specs.List.Sorted.{IsPermutation}
@@ -28,23 +28,23 @@ group_slot x = group_key x.version.row.table x.version.row.group x.version.row.i
 abbrev pub in_slots : List (SlotKey × Option Placed) → List Placed
 in_slots es = map (λ p. p.1) (held es)
 
--- of the table, and with an id from the first to the last
+-- the version has this table, and an id from the first to the last
 abbrev pub row_between : ℕ → ℕ → ℕ → Placed → Bool
 row_between table first last x = (x.version.row.table == table) && (nat_le first x.version.row.id && nat_le x.version.row.id last)
 
--- of the table and group
+-- the version has this table and group
 abbrev pub in_group_of : ℕ → ℕ → Placed → Bool
 in_group_of table group x = (x.version.row.table == table) && (x.version.row.group == group)
 
--- Each slot by table and id has a version of that table and id that has not died. Those by table and group that are taken are
--- the slots of these versions and no others.
+-- Each slot by table and id has a version of that table and id that has not died. The taken slots by table and
+-- group are exactly those of these versions.
 pub record AreCurrent {V : Type 0} (rows : List (SlotKey × Option Placed)) (groups : List (SlotKey × Option V)) : Type 0 where
   pub keyed : AllByRecursion (λ p. p.0 ≡ row_slot p.1) (held rows)
   pub alive : AllByRecursion (λ x. x.version.died ≡ None) (in_slots rows)
   pub grouped : IsPermutation (map group_slot (in_slots rows)) (map (λ p. p.0) (held groups))
 
--- the current version of a table and id, if there is one, died at the stamp and was replaced, and the new one, if there is
--- one, came
+-- the current version of a table and id, if there is one, died at the stamp and was replaced, and the new one,
+-- if there is one, came
 pub record Moves (table id stamp : ℕ) (came : Option Placed) (old new replaced_old replaced_new : List Placed) : Type 0 where
   pub was : Option Placed
   pub rest : List Placed

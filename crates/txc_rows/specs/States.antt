@@ -15,7 +15,7 @@ State = List RowValue
 abbrev pub row_before : RowValue → RowValue → Bool
 row_before r s = nat_lt r.table s.table || ((r.table == s.table) && nat_lt r.id s.id)
 
--- its rows stand strictly by table and id, so that there is one list for each map
+-- its rows ascend strictly by table and id, so that each map has exactly one list
 abbrev pub IsState : State → Type 0
 IsState [] = Unit {0}
 IsState (r ∷ rs) = AllByRecursion (λ s. row_before r s ≡ true) rs × IsState rs

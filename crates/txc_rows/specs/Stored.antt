@@ -1,5 +1,5 @@
--- How a version stands in the table, and how it is read back: words that only this crate's private functions
--- promise.
+-- Versions as rows of the table, and reading them back: only the contracts of this crate's private functions
+-- use it.
 use Rattle.std.specs.Prelude.{◌≡◌, ℕ, ℤ, pos, negsuc, List, [], ◌∷◌, map, Option, Some, None}
 use Rattle.std.specs.List.{AllByRecursion}
 use Rattle.sqlite.specs.Tree.{rowid, IsTable}
@@ -11,11 +11,11 @@ use Rattle.sqlite.specs.Values.{or_null}
 use Rattle.txc_rows.specs.declared.version.Versioned.{Versioned}
 use Rattle.txc_rows.specs.declared.placed.Placed.{Placed}
 
--- a number as the store keeps it
+-- a number as a stored value
 abbrev pub number : ℕ → Value
 number n = Int (pos n)
 
--- the stamp of a death as the store keeps it: null while the version is current
+-- the stamp of a death as a stored value: null while the version is current
 abbrev pub death : Option ℕ → Value
 death = or_null number
 
@@ -28,7 +28,7 @@ cells_of x = number x.place ∷ number x.version.row.table ∷ number x.version.
 abbrev pub stored : ℤ → Placed → Row
 stored id x = Int id ∷ cells_of x
 
--- the number that a stored value says
+-- the number of a stored value
 abbrev pub number_in : Value → ℕ
 number_in Null = 0
 number_in (Int (pos n)) = n
@@ -37,7 +37,7 @@ number_in (Real x) = 0
 number_in (Text t) = 0
 number_in (Blob b) = 0
 
--- the death that a stored value says
+-- the death of a stored value
 abbrev pub death_in : Value → Option ℕ
 death_in Null = None
 death_in (Int (pos n)) = Some n
@@ -46,7 +46,7 @@ death_in (Real x) = None
 death_in (Text t) = None
 death_in (Blob b) = None
 
--- what the columns of a table say
+-- the version of the columns of a table
 abbrev pub placed_from : Row → Placed
 placed_from r = record {
   place = number_in (column r 0);
@@ -62,7 +62,7 @@ placed_from r = record {
   };
 }
 
--- what a row of a table says
+-- the version of a row of a table
 abbrev pub placed_in : Row → Placed
 placed_in r = record {
   place = number_in (column r 1);
@@ -82,7 +82,7 @@ placed_in r = record {
 abbrev pub AreCells : Row → Type 0
 AreCells r = r ≡ cells_of (placed_from r)
 
--- what the query on one table shows of a version: id, group, body, birth and death
+-- the columns that the query on one table selects of a version: id, group, body, birth and death
 abbrev pub queried_columns : Versioned → Row
 queried_columns v = number v.row.id ∷ number v.row.group ∷ Blob v.row.body ∷ number v.born ∷ death v.died ∷ []
 
@@ -99,7 +99,7 @@ version_shown table r = record {
   died = death_in (column r 4);
 }
 
--- the versions that the rows of a table say
+-- the versions of the rows of a table
 abbrev pub placed_all : List Row → List Placed
 placed_all = map placed_in
 
@@ -107,7 +107,7 @@ placed_all = map placed_in
 abbrev pub IsStored : Row → Type 0
 IsStored r = r ≡ stored (id_in (rowid r)) (placed_in r)
 
--- the rows are versions, and stand by their numbers
+-- the rows are versions, and ascend by their numbers
 pub record AreVersionRows (rows : List Row) : Type 0 where
   pub table : IsTable rows
   pub each : AllByRecursion IsStored rows

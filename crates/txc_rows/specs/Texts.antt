@@ -28,8 +28,8 @@ column_of name kind needed = record {
 abbrev pub no_schema : Schema
 no_schema = record { tables = []; indexes = []; views = [] }
 
--- the last version of each table, id and group, with its place. It is found by table, id and group, and by table, group
--- and id. One that has not died has no death, and none dies before it was born or as it was.
+-- the last version of each table, id and group, with its place. It is found by table, id and group, and by
+-- table, group and id. One that has not died has no death, and none dies before it was born or as it was.
 abbrev pub latest_table : Table
 latest_table = record {
   name = codes "latest";

@@ -16,7 +16,7 @@ pub data Use : Type 0 where
   write : List Change → ℕ → Use
   purge : ℕ → Use
 
--- what a use leaves of the versions
+-- the versions after a use
 abbrev pub versions_after_use : List Versioned → Use → List Versioned
 versions_after_use vs (write net stamp) = after_net stamp net vs
 versions_after_use vs (purge horizon) = purged horizon vs
@@ -25,8 +25,7 @@ versions_after_use vs (purge horizon) = purged horizon vs
 abbrev pub versions_after : List Use → List Versioned
 versions_after = fold versions_after_use []
 
--- what a use makes of the state at a stamp: a write changes it from its own stamp on, and a purge changes no
--- state
+-- the state at a stamp after a use: a write changes it from its own stamp on, and a purge changes no state
 abbrev pub use_at : ℕ → State → Use → State
 use_at t s (write net stamp) = if nat_le stamp t then after_changes net s else s
 use_at t s (purge horizon) = s
@@ -53,7 +52,7 @@ AreUsesInOrder s horizon newest (write net stamp ∷ uses) = (newest < stamp)
 AreUsesInOrder s horizon newest (purge next ∷ uses) = (horizon ≤ next) × AreUsesInOrder s next (max newest next) uses
 
 -- from an empty store, after any writes of net changes at rising stamps and purges at rising horizons,
--- what is found for a query shows its answer at every kept stamp
+-- the versions found for a query show its answer at every kept stamp
 abbrev pub UsesAnswer : Type 0
 UsesAnswer = (uses : List Use) (q : Query) (found : List Versioned) (t : ℕ)
     → AreUsesInOrder [] 0 0 uses → Finds q (versions_after uses) found → horizon_after uses ≤ t

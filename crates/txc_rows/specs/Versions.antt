@@ -40,7 +40,7 @@ shown_at q t vs = map row_of (filter (λ v. is_visible t v && suits q v) vs)
 abbrev pub version_cmp : Versioned → Versioned → Ordering
 version_cmp v w = ordering_then (nat_cmp v.row.id w.row.id) (nat_cmp v.born w.born)
 
--- ---- what writes and purges make of them
+-- ---- the versions after writes and purges
 
 -- no later write changed its row
 abbrev pub is_current : Versioned → Bool
@@ -86,24 +86,24 @@ has_died_by horizon v = died_by horizon v.died
 abbrev pub purged : ℕ → List Versioned → List Versioned
 purged horizon = filter (λ v. not (has_died_by horizon v))
 
--- the stamp of a death, where stamps are counted from that one on
+-- the stamp of a death, counted from that stamp on
 abbrev pub death_from : ℕ → Option ℕ → Option ℕ
 death_from first None = None
 death_from first (Some died) = Some (died - first)
 
--- the version, where stamps are counted from that one on: what was before it is at 0
+-- the version with stamps counted from that one on: each earlier stamp is 0
 abbrev pub counted_from : ℕ → Versioned → Versioned
 counted_from first v = record v { born = v.born - first; died = death_from first v.died }
 
--- ---- what a list of versions keeps
+-- ---- invariants of a list of versions
 
--- a row that stands for some stamps
+-- a row that is in the state at some stamps
 pub record IsVersion (v : Versioned) : Type 0 where
   pub row : IsRow v.row
   pub born : v.born ≤ MOST_STAMP
   pub life : (d : ℕ) → v.died ≡ Some d → (v.born < d) × (d ≤ MOST_STAMP)
 
--- of two versions of a table and id the one before died by the other's birth, and where it died then they
+-- of two versions of a table and id the earlier died by the other's birth, and if it died at that stamp they
 -- differ
 pub record Follows (v w : Versioned) : Type 0 where
   pub died : v.row.table ≡ w.row.table → v.row.id ≡ w.row.id
@@ -119,15 +119,15 @@ pub record AreVersions (vs : List Versioned) : Type 0 where
   pub each : AllByRecursion IsVersion vs
   pub apart : Pairwise Follows vs
 
--- ---- what may be written over them
+-- ---- the writes that they allow
 
--- a put is new at this stamp, and not the row that is there
+-- a put is later than this version, and differs from its row if it is current
 pub record IsPutOver (stamp : ℕ) (row : RowValue) (v : Versioned) : Type 0 where
   pub born : v.born < stamp
   pub differs : v.died ≡ None → v.row ≢ row
   pub died : (d : ℕ) → v.died ≡ Some d → (d ≤ stamp) × (d ≡ stamp → v.row ≢ row)
 
--- no version of its table and id began at the stamp or later, and a put changes the row that is there
+-- no version of its table and id began at the stamp or later, and a put changes the current row
 abbrev pub IsChange : ℕ → Change → List Versioned → Type 0
 IsChange stamp (Put row) vs =
     AllByRecursion (λ v. v.row.table ≡ row.table → v.row.id ≡ row.id → IsPutOver stamp row v) vs

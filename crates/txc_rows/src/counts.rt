@@ -1,16 +1,16 @@
-//! How many rows of the table of last versions have died.
+//! Counts of the dead rows in the table of last versions.
 
 use crate::writes::Written;
 
-/// The table is made anew where so many of its versions are gone at least.
+/// The least number of dead versions in the table after which it is rebuilt.
 const LEAST_ENDED: usize = 1024;
 
-/// How many rows the table has, how many of them have died, and how many of those are hidden.
+/// Number of rows of the table, and how many of them have died.
 #[derive(Clone, Copy)]
 pub(crate) struct Counts {
     rows: usize,
     ended: usize,
-    /// So many had died at that stamp.
+    /// Number of rows that had died when a write at stamp `noted_at` began.
     ended_before: usize,
     noted_at: u32,
     /// The last stamp of a write.
@@ -26,13 +26,14 @@ impl Counts {
         newest: 0,
     };
 
-    /// Whether as many of the versions are gone before the stamp as are left.
+    /// Returns `true` if at least half of the table's versions, and at least [`LEAST_ENDED`], are known to have
+    /// died before the stamp.
     pub(crate) fn is_mostly_ended(&self, from: u32) -> bool {
         let gone = self.ended.min(self.ended_before);
         self.noted_at < from && gone >= LEAST_ENDED.max(self.rows / 2)
     }
 
-    /// A commit was written.
+    /// Counts a commit that was written.
     pub(crate) fn note(&mut self, written: Written, stamp: u32) {
         self.newest = self.newest.max(stamp);
         self.rows = self.rows.wrapping_add(written.added);
@@ -40,7 +41,7 @@ impl Counts {
         self.ended = ended.saturating_sub(written.revived);
     }
 
-    /// What died before the stamp is hidden.
+    /// Hides the versions that died before the stamp.
     pub(crate) fn hide(&mut self, from: u32) {
         if self.noted_at < from {
             self.ended_before = self.ended;
@@ -48,7 +49,7 @@ impl Counts {
         }
     }
 
-    /// The table was made anew, with so many rows.
+    /// Sets the counts of a rebuilt table with that many rows.
     pub(crate) fn rebuilt(&mut self, rows: usize) {
         self.rows = rows;
         self.ended = 0;

@@ -1,4 +1,5 @@
-//! The last versions of a store without SQLite: the current ones alone, in slots by table and id, and by table and group.
+//! The last versions of a store without SQLite: only the current ones, in slots by table and id, and by table
+//! and group.
 
 ghost use Rattle.std.specs.Prelude.{◌≡◌, ◌≢◌, ◌++◌, ◌∷◌, ◌+◌, ◌<◌, ◌≤◌, ◌^◌, ℕ, [], true, None, Some, Err, length, map, filter, IfOk, IfErr, OnOk, OnErr, MatchOption};
 ghost use Rattle.std.specs.List.{AllByRecursion};
@@ -31,14 +32,14 @@ use txc_slots::{SlotKey, change, drop_vacant, make, settle, take_back, value_at}
 use txc_stamp::Stamp;
 use txc_tags::Table;
 
-/// Versions by table and id, and which of them stand in a table and group.
+/// Versions by table and id, and marks of them by table and group.
 #[derive(Drop)]
 struct Slots {
     rows: BTreeMap<SlotKey, Option<Placed>>,
     groups: BTreeMap<SlotKey, Option<()>>,
 }
 
-/// What the changes of one commit replaced in the slots.
+/// The old contents of the slots that the changes of one commit replaced.
 #[derive(Drop)]
 struct Log {
     rows: Vec<(SlotKey, Option<Placed>)>,
@@ -96,7 +97,8 @@ fn group_slot(placed: &Placed) -> SlotKey
     group_key(row.table(), row.group(), row.id())
 }
 
-/// An equal version to the one at the key, if there is one.
+/// Returns an equal version to the one at the key, or `None` if there is none. Fails only if memory cannot be
+/// allocated.
 fn current_at(
     rows: &BTreeMap<SlotKey, Option<Placed>>,
     alloc: Global,
@@ -130,7 +132,7 @@ fn new_version(alloc: Global, row: &Row, stamp: Stamp, place: u32) -> Result<Pla
 
 // ---- one change
 
-/// The slot of the version in its group, if there is a version, is taken or vacant from now on.
+/// Sets the mark of the version in its group, if there is a version, to this value.
 fn mark(
     slots: &mut Slots,
     log: &mut Log,
@@ -156,7 +158,7 @@ fn mark(
     Ok(())
 }
 
-/// The version comes to the slot, or none does.
+/// Sets the slot of the key to the version, or to vacant.
 fn come(slots: &mut Slots, log: &mut Log, key: SlotKey, came: Option<Placed>) -> Result<(), Error>
     ensures changes { OnOk result (Changes key came slots.old.rows.entries slots.new.rows.entries) }
     ensures back { undone log.new.rows.items slots.new.rows.entries ≡ undone log.old.rows.items slots.old.rows.entries }
@@ -168,7 +170,8 @@ fn come(slots: &mut Slots, log: &mut Log, key: SlotKey, came: Option<Placed>) ->
     Ok(())
 }
 
-/// The current version of a table and id dies at the stamp and is replaced, and the new one comes, if there is one.
+/// Ends the current version of a table and id at the stamp, moves it to the replaced ones, and puts the new
+/// version, if there is one, in its place.
 fn move_version(
     slots: &mut Slots,
     log: &mut Log,
@@ -243,7 +246,7 @@ fn write_change(
 
 // ---- a commit
 
-/// Makes a slot for each change that has none.
+/// Makes a slot for each change that has none. Fails if there is no memory for one; all values stay.
 fn make_slots(slots: &mut Slots, net: &[Change]) -> Result<(), AllocError>
     ensures rows { held slots.new.rows.entries ≡ held slots.old.rows.entries }
     ensures groups { held slots.new.groups.entries ≡ held slots.old.groups.entries }
@@ -260,7 +263,7 @@ fn make_slots(slots: &mut Slots, net: &[Change]) -> Result<(), AllocError>
     Ok(())
 }
 
-/// Drops the slots of the changes that are vacant.
+/// Drops the vacant slots of the changes.
 fn drop_slots(slots: &mut Slots, net: &[Change])
     ensures rows { held slots.new.rows.entries ≡ held slots.old.rows.entries }
     ensures groups { held slots.new.groups.entries ≡ held slots.old.groups.entries }
@@ -276,7 +279,7 @@ fn drop_slots(slots: &mut Slots, net: &[Change])
     }
 }
 
-/// Writes the changes of one commit until one is refused.
+/// Writes the changes of one commit, up to the first that fails.
 fn write_each(
     slots: &mut Slots,
     log: &mut Log,
@@ -305,7 +308,7 @@ fn write_each(
     Ok(())
 }
 
-/// Makes the slots, and writes the changes until one is refused.
+/// Makes the slots, and writes the changes, up to the first that fails.
 fn try_write(
     slots: &mut Slots,
     log: &mut Log,
@@ -336,7 +339,7 @@ fn try_write(
 
 // ---- what is found
 
-/// The version is added to the found ones, which may be so many.
+/// Appends the version to the found ones. Fails if there are `most` already, or if there is no memory.
 fn add_one(
     placed: &Placed,
     alloc: Global,
@@ -355,7 +358,8 @@ fn add_one(
     Ok(())
 }
 
-/// The versions of a table with ids from the first to the last are added to the found ones, which may be so many.
+/// Appends the versions of a table with ids from the first to the last to the found ones. Fails if there are
+/// more than `most`, or if there is no memory.
 fn add_rows(
     slots: &Slots,
     alloc: Global,
@@ -386,7 +390,8 @@ fn add_rows(
     Ok(())
 }
 
-/// The versions of a table and group are added to the found ones, which may be so many.
+/// Appends the versions of a table and group to the found ones. Fails if there are more than `most`, or if
+/// there is no memory.
 fn add_group(
     slots: &Slots,
     alloc: Global,
@@ -404,7 +409,7 @@ fn add_group(
     ensures refused { result ≡ Err StoreError.TooManyRows
         → most < length found.old.items + length (filter (in_group_of table group) (in_slots slots.now.rows.entries)) }
 {
-    // The rows stand in the order of their keys, as any map's.
+    // The rows are in the order of their keys, as in any ordered map.
     let _count = slots.rows.len();
     let low = group_key(table, group, 0);
     let high = group_key(table, group, u32::MAX);
@@ -433,14 +438,15 @@ impl Current {
         }
     }
 
-    /// None has died, so that from each stamp on all of them are left.
+    /// No version has died, so none is left out, whatever the stamp. This is a lemma.
     pub(crate) fn note_left(&self)
         ensures { (from : _) → IsPermutation (placed_left from self.now) self.now }
     {
         let _ = &self.slots;
     }
 
-    /// The versions that match are added to the found ones, which may be so many.
+    /// Appends the versions that match to the found ones. Fails if there are more than `most`, or if there is
+    /// no memory.
     pub(crate) fn find(
         &self,
         alloc: Global,
@@ -472,7 +478,7 @@ impl Current {
         }
     }
 
-    /// Writes the changes of one commit, all or none. To take back takes no memory.
+    /// Writes the changes of one commit, all or none. Undoing a failed one does not allocate.
     pub(crate) fn write(
         &mut self,
         replaced: &mut Replaced,

@@ -1,4 +1,4 @@
-//! Versions from the rows that the store shows.
+//! Versions from the rows that SQLite returns.
 
 ghost use Rattle.std.specs.Prelude.{◌≡◌, ◌≤◌, ◌+◌, ◌++◌, length, IfOk, IfErr, OnOk, Some, map};
 ghost use Rattle.std.specs.List.{AllByRecursion};
@@ -26,7 +26,7 @@ fn death_from(number: Option<u32>) -> Option<Stamp>
     }
 }
 
-/// A row that was stored.
+/// Makes a row that was stored.
 fn row_from(table: Table, id: u32, group: u32, body: Vec<u8>) -> Row
     requires { AreBytes body.items }
     ensures { result ≡ record { table = table; id = id; group = group; body = body.items } }
@@ -53,7 +53,8 @@ fn version_from(table: Table, shown: &sqlite::Row) -> Result<Versioned, sqlite::
     })
 }
 
-/// The versions of a table that the rows show are added to the found ones.
+/// Appends the versions of a table that the rows show to the found ones. Fails only if memory cannot be
+/// allocated.
 pub(crate) fn add_shown(
     table: Table,
     rows: &[sqlite::Row],
@@ -65,7 +66,7 @@ pub(crate) fn add_shown(
 {
     found.reserve(rows.len())?;
     for shown in rows {
-        // What is stored can be read back, where there is memory for it.
+        // A stored version can be read back if there is memory for it.
         let Ok(version) = version_from(table, shown) else {
             return Err(StoreError::Memory);
         };
@@ -94,7 +95,7 @@ fn placed_from(table: Table, row: &sqlite::Row) -> Result<Placed, sqlite::Error>
     })
 }
 
-/// The versions of a table that the rows are.
+/// Returns the versions of a table that the rows are, with their places.
 pub(crate) fn all_placed_from(
     alloc: Global,
     table: Table,
@@ -112,7 +113,8 @@ pub(crate) fn all_placed_from(
     Ok(placed)
 }
 
-/// The versions of a table that the rows are join the found ones, and are known.
+/// Appends the versions of a table that the rows are to the found and to the known ones. Fails only if memory
+/// cannot be allocated.
 pub(crate) fn add_known(
     alloc: Global,
     table: Table,

@@ -1,4 +1,4 @@
-//! The last versions of a store: in a table of SQLite, or the current ones alone in slots.
+//! The last versions of a store: in a table of SQLite, or only the current ones, in slots.
 
 ghost use Rattle.std.specs.Prelude.{◌≡◌, ◌+◌, ◌^◌, ◌<◌, ◌≤◌, ◌++◌, [], Err, IfOk, IfErr, OnOk, OnErr, length, filter, map};
 ghost use Rattle.std.specs.List.{AllByRecursion};
@@ -27,15 +27,15 @@ use std::marker::Model;
 use txc_stamp::Stamp;
 use txc_tags::Table;
 
-/// Where so many last versions are known, they are forgotten for others.
+/// The number of known last versions from which on they are forgotten to make room for others.
 pub(crate) const MOST_KNOWN: usize = 256;
 
-/// Where the last versions lie.
+/// Storage of the last versions.
 #[derive(Drop)]
 enum Kind {
-    /// In a table, of each table, id and group the last one.
+    /// A table of SQLite: the last version of each table, id and group.
     Table(Connection<MemStore>),
-    /// In slots, those that have not died.
+    /// Slots: the versions that have not died.
     Slots(Current),
 }
 
@@ -59,7 +59,7 @@ impl Model for Latest {
 
 // ---- the table
 
-/// A connection with the table and no version.
+/// Opens a connection with an empty table.
 fn open_table(alloc: Global) -> Result<Connection<MemStore>, sqlite::Error>
     ensures kept { IfOk result IsKept }
     ensures empty { IfOk result (λ conn. latest_in conn ≡ []) }
@@ -69,8 +69,8 @@ fn open_table(alloc: Global) -> Result<Connection<MemStore>, sqlite::Error>
     Ok(conn)
 }
 
-/// The last versions that match, of those that did not die before the stamp, are added to the found ones, which may be so
-/// many. That many are read at most, and one more, which shows that too many match.
+/// Appends to the found versions the last ones that match and did not die before the stamp. It reads at most
+/// `most` and one more, which shows that too many match; then it fails.
 fn find(
     conn: &mut Connection<MemStore>,
     query: &Query,
@@ -94,7 +94,7 @@ fn find(
     add_shown(query.table(), &rows, found)
 }
 
-/// Where many are known, they are known no longer.
+/// Forgets the known versions if there are many.
 fn forget_many(known: &mut Vec<Placed>)
     ensures among { (latest : _) → AreAmong latest known.old.items → AreAmong latest known.new.items }
     ensures few { length known.new.items < MOST_KNOWN }
@@ -105,7 +105,8 @@ fn forget_many(known: &mut Vec<Placed>)
     known.clear();
 }
 
-/// The last versions of a table and id that did not die before the stamp are added to the found ones, and are known.
+/// Appends to the found versions the last ones of a table and id that did not die before the stamp; they are
+/// known from then on. Fails if there are more than `most`, if there is no memory, or with an error of SQLite.
 fn find_row(
     conn: &mut Connection<MemStore>,
     known: &mut Vec<Placed>,
@@ -137,7 +138,7 @@ fn find_row(
     add_known(alloc, table, &rows, known, found)
 }
 
-/// The last versions that match, as `find` has them. Those of one row are known from then on.
+/// Appends the last versions that match, as `find` does. Those of one row are known from then on.
 fn find_known(
     conn: &mut Connection<MemStore>,
     known: &mut Vec<Placed>,
@@ -249,7 +250,7 @@ fn write(
 // ---- either
 
 impl Latest {
-    /// A table that has no version.
+    /// Makes an empty table of SQLite.
     pub(crate) fn of_table(alloc: Global) -> Result<Latest, sqlite::Error>
         ensures { IfOk result (λ latest. latest ≡ []) }
     {
@@ -259,7 +260,7 @@ impl Latest {
         })
     }
 
-    /// Slots that have no version.
+    /// Makes empty slots.
     pub(crate) fn of_slots(alloc: Global) -> Latest
         ensures { result ≡ [] }
     {
@@ -268,7 +269,7 @@ impl Latest {
         }
     }
 
-    /// Leaves out what died before the stamp. It answers how many versions a table is made anew with.
+    /// Drops the versions that died before the stamp. Returns how many versions a table was rebuilt with.
     pub(crate) fn leave_out(&mut self, from: u32) -> Result<usize, sqlite::Error>
         requires each { AllByRecursion (λ x. IsStorable x.version) self.old }
         ensures left { OnOk result (IsPermutation (placed_left from self.old) self.new) }
@@ -283,7 +284,8 @@ impl Latest {
         }
     }
 
-    /// The versions that match, of those that did not die before the stamp, are added to the found ones, which may be so many.
+    /// Appends to the found versions the last ones that match and did not die before the stamp. Fails if there
+    /// are more than `most`, if there is no memory, or with an error of SQLite.
     pub(crate) fn find(
         &mut self,
         alloc: Global,
@@ -307,7 +309,7 @@ impl Latest {
         }
     }
 
-    /// The same. Those of one row in a table are known from then on.
+    /// Appends them as `find` does. Those of one row in a table are known from then on.
     pub(crate) fn find_known(
         &mut self,
         known: &mut Vec<Placed>,
@@ -336,8 +338,8 @@ impl Latest {
         }
     }
 
-    /// Writes the changes of one commit, all or none. The versions that they put have places from this one on. It answers what
-    /// changed in a table.
+    /// Writes the changes of one commit, all or none. The versions that they put have places from `place` on.
+    /// Returns what changed in a table of SQLite.
     pub(crate) fn write(
         &mut self,
         replaced: &mut Replaced,
@@ -365,7 +367,7 @@ impl Latest {
         }
     }
 
-    /// Limits the steps of each later statement on a table, or takes the limit away.
+    /// Limits the steps of each later statement on a table, or removes the limit.
     pub(crate) fn set_step_limit(&mut self, limit: Option<u64>)
         ensures { self.new ≡ self.old }
     {

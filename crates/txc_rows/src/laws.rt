@@ -1,4 +1,4 @@
-//! What follows from the definitions. Each is a lemma: it has no code.
+//! Lemmas about the definitions. They have no code.
 ghost use Rattle.txc_rows.specs.Laws.{StatesAreRows, ChangedIsState, ChangeUpdates, PutsMakeState, NetLeads, NetIsDifference, NetTags, TagsAreSound, NoTagsBetween, SaysNothing, SaysAgree, SaysWritten, SaysQuiet, SaysPurged, SaysAnswer, NetIsWritable};
 
 /// States are finite maps from (table, id) to (group, body), and changes update them.
@@ -22,7 +22,7 @@ pub fn tags_are_sound()
     ensures none { NoTagsBetween }
 {}
 
-/// Versions go on saying the states through writes, quiet stamps and purges.
+/// Versions continue to describe the states through writes, stamps without changes, and purges.
 pub fn versions_say_states()
     ensures nothing { SaysNothing }
     ensures agree { SaysAgree }

@@ -1,4 +1,5 @@
-//! Rows of tables, changes of them, queries over them, and the versions of rows that say every kept state.
+//! Rows of tables, changes of them, queries over them, and the versions of rows from which every kept state can
+//! be read.
 #![tactic(auto)]
 
 mod counts;

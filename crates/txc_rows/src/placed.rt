@@ -3,7 +3,7 @@ ghost use Rattle.std.specs.Prelude.{◌≡◌, IfOk};
 use crate::version::Versioned;
 use std::alloc::{AllocError, Global};
 
-/// A version, and where it stands among all in the order in which they were put.
+/// A version with its place in the order in which all versions were put.
 #[derive(Drop)]
 pub(crate) struct Placed {
     pub place: u32,

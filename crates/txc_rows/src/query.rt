@@ -7,7 +7,7 @@ use crate::row::Row;
 use std::alloc::{AllocError, Global};
 use txc_tags::{Table, Tag};
 
-/// What is asked of a state. Its answer is the rows that match, by id.
+/// A query of a state. Its answer is the rows that match, by id.
 #[derive(Clone, Copy, Debug, PartialEq, Eq)]
 pub enum Query {
     /// The row of the table with that id.
@@ -21,7 +21,7 @@ pub enum Query {
 }
 
 impl Query {
-    /// The table that it asks.
+    /// Returns the table that it reads.
     pub fn table(&self) -> Table
         ensures { result ≡ query_table self.now }
     {
@@ -33,7 +33,7 @@ impl Query {
         }
     }
 
-    /// Whether the row is one of those that it asks for.
+    /// Returns `true` if the query selects the row.
     pub fn matches(&self, row: &Row) -> bool
         ensures { result ≡ matches self.now row.now }
     {
@@ -47,7 +47,7 @@ impl Query {
         }
     }
 
-    /// The one tag on which the query's answer depends.
+    /// Returns the single tag on which the query's answer depends.
     pub fn tag(&self) -> Tag
         ensures { result ≡ query_tag self.now }
     {
@@ -63,14 +63,14 @@ impl Query {
 /// One change of a state.
 #[derive(Debug, Drop)]
 pub enum Change {
-    /// The row stands at its table and id, in place of the one that was there.
+    /// Puts the row at its table and id, replacing the row there.
     Put(Row),
-    /// No row stands at the table and id.
+    /// Removes the row at the table and id, if there is one.
     Remove(Table, u32),
 }
 
 impl Change {
-    /// An equal change.
+    /// Returns an equal change. Fails only if memory cannot be allocated.
     pub fn copy(&self, alloc: Global) -> Result<Change, AllocError>
         ensures { IfOk result (λ c. c ≡ self.now) }
     {
@@ -80,7 +80,7 @@ impl Change {
         }
     }
 
-    /// The table whose row it changes.
+    /// Returns the table whose row it changes.
     pub fn table(&self) -> Table
         ensures { result ≡ change_table self.now }
     {
@@ -90,7 +90,7 @@ impl Change {
         }
     }
 
-    /// The id of the row that it changes.
+    /// Returns the id of the row that it changes.
     pub fn id(&self) -> u32
         ensures { result ≡ change_id self.now }
     {
@@ -100,7 +100,7 @@ impl Change {
         }
     }
 
-    /// Whether both change the row of one table and id.
+    /// Returns `true` if both change the row of one table and id.
     pub fn has_same_key(&self, other: &Change) -> bool
         ensures { result ≡ same_key self.now other.now }
     {

@@ -69,7 +69,7 @@ fn read_range(
     )
 }
 
-/// The last versions that match, of those that did not die before the stamp, in any order, and so many of them at most.
+/// Returns the last versions that match and did not die before the stamp, at most `most` of them, in any order.
 pub(crate) fn read(
     conn: &mut Connection<MemStore>,
     query: &Query,
@@ -87,7 +87,8 @@ pub(crate) fn read(
     }
 }
 
-/// The last versions of a table and id that did not die before the stamp, with their places, in any order.
+/// Returns the last versions of a table and id that did not die before the stamp, with their places, in any
+/// order.
 pub(crate) fn read_placed(
     conn: &mut Connection<MemStore>,
     table: Table,

@@ -1,4 +1,4 @@
-//! The versions that others replaced, in memory beside the table of last versions.
+//! The versions that later ones replaced, in memory next to the table of last versions.
 
 ghost use Rattle.std.specs.Prelude.{◌≡◌, ◌≢◌, ◌++◌, ◌∷◌, [], ◌<◌, ◌≤◌, ◌+◌, ◌-◌, ◌^◌, true, false, max, nat_lt, None, Some, not, take, drop, length, filter, map, IfOk, OnOk, OnErr, MatchOption};
 ghost use Rattle.std.specs.List.{AllByRecursion, slice_get};
@@ -20,14 +20,14 @@ use std::marker::Model;
 use txc_stamp::Stamp;
 use txc_tags::Table;
 
-/// A purge drops at most so many, in about a millisecond.
+/// The most versions that a purge drops, in about a millisecond.
 const MOST_DROPPED: usize = 500;
 
-/// So many are dropped for each that is added: fewer and fewer wait.
+/// Number of purged versions dropped for each one added, so that the number of waiting ones falls.
 const DROPPED_FOR_ONE: usize = 2;
 
-/// A version by its table, its id or its group, and its death. All versions are numbered in the order in which they were
-/// replaced.
+/// An index entry: a version by its table, its id or group, and its death. All versions are numbered in the
+/// order in which they were replaced.
 #[derive(Clone, Copy, PartialEq, Eq, PartialOrd, Ord)]
 pub(crate) struct Spot {
     table: u8,
@@ -36,7 +36,7 @@ pub(crate) struct Spot {
     number: usize,
 }
 
-/// The versions from a number on that died from one stamp to another.
+/// Selects the versions from a number on that died from one stamp to another.
 #[derive(Clone, Copy)]
 pub(crate) struct Deaths {
     number: usize,
@@ -58,7 +58,8 @@ pub(crate) struct Replaced {
     versions: VecDeque<Placed>,
     /// The number of the first version.
     first: usize,
-    /// So many at the front are gone: contracts do not see them, and they are dropped a few at a time.
+    /// The number of versions at the front that are purged: contracts do not see them, and they are dropped a
+    /// few at a time.
     gone: usize,
     ids: BTreeSet<Spot>,
     groups: BTreeSet<Spot>,
@@ -111,7 +112,7 @@ fn spot_by_group(placed: &Placed, number: usize) -> Spot
     }
 }
 
-/// Adds a spot whose number is new.
+/// Adds a spot with a new number. Fails, and changes nothing, if there is no memory for it.
 fn add_spot(spots: &mut BTreeSet<Spot>, spot: Spot) -> Result<(), AllocError>
     requires { AllByRecursion (λ s. s.number ≢ spot.number) spots.old.keys }
     ensures added { OnOk result (IsPermutation (spot ∷ spots.old.keys) spots.new.keys) }
@@ -121,7 +122,7 @@ fn add_spot(spots: &mut BTreeSet<Spot>, spot: Spot) -> Result<(), AllocError>
     Ok(())
 }
 
-/// Drops a spot, where no other has its number.
+/// Drops a spot, if no other has its number.
 fn drop_spot(spots: &mut BTreeSet<Spot>, spot: Spot)
     ensures { (others : _) → AllByRecursion (λ s. s.number ≢ spot.number) others
         → IsPermutation (spot ∷ others) spots.old.keys → IsPermutation others spots.new.keys }
@@ -129,7 +130,8 @@ fn drop_spot(spots: &mut BTreeSet<Spot>, spot: Spot)
     spots.remove(&spot);
 }
 
-/// The spots of a table with a key from the first to the last. Others than those that died so are left out, or not.
+/// Returns the spots of a table with a key from the first to the last. It may or may not leave out those that
+/// died at other stamps.
 fn spots_between(
     spots: &BTreeSet<Spot>,
     deaths: Deaths,
@@ -161,7 +163,8 @@ fn spots_between(
     spots.range(low..=high)
 }
 
-/// The spots of the versions that the query asks for. Others than those that died so are left out, or not.
+/// Returns the spots of the versions that the query selects. It may or may not leave out those that died at
+/// other stamps.
 fn spots_for<'a>(
     ids: &'a BTreeSet<Spot>,
     groups: &'a BTreeSet<Spot>,
@@ -191,7 +194,7 @@ fn has_one_key(query: &Query) -> bool
     }
 }
 
-/// Whether there are more than so many that died so.
+/// Returns `true` if more than `most` died within the range.
 fn are_more(deaths: Deaths, spots: Range<'_, Spot>, most: usize) -> bool
     ensures more { result ≡ true → most < length (filter (dies_within deaths) spots.entry) }
     ensures few { result ≡ false → length (filter (dies_within deaths) spots.entry) ≤ most }
@@ -209,7 +212,7 @@ fn are_more(deaths: Deaths, spots: Range<'_, Spot>, most: usize) -> bool
     false
 }
 
-/// The first that died so, where deaths rise: the earliest.
+/// Returns the first that died within the range; if deaths ascend, that is the earliest.
 fn first_of(deaths: Deaths, spots: Range<'_, Spot>) -> Option<Spot>
     requires { DeathsRise (filter (dies_within deaths) spots) }
     ensures { MatchOption result (filter (dies_within deaths) spots.entry ≡ [])
@@ -223,7 +226,7 @@ fn first_of(deaths: Deaths, spots: Range<'_, Spot>) -> Option<Spot>
     None
 }
 
-/// The last that died so, where deaths rise: the latest.
+/// Returns the last that died within the range; if deaths ascend, that is the latest.
 fn last_of(deaths: Deaths, mut spots: Range<'_, Spot>) -> Option<Spot>
     requires { DeathsRise (filter (dies_within deaths) spots) }
     ensures { MatchOption result (filter (dies_within deaths) spots.entry ≡ [])
@@ -237,7 +240,7 @@ fn last_of(deaths: Deaths, mut spots: Range<'_, Spot>) -> Option<Spot>
     None
 }
 
-/// The later of the two, of those that died so.
+/// Returns the later of the two, among those that died within the range.
 fn later(deaths: Deaths, last: Option<Spot>, spot: &Spot) -> Option<Spot>
     ensures { (seen : _) → MatchOption last (seen ≡ []) (IsLatest seen)
         → MatchOption result (seen ++ filter (dies_within deaths) (spot.now ∷ []) ≡ [])
@@ -254,7 +257,7 @@ fn later(deaths: Deaths, last: Option<Spot>, spot: &Spot) -> Option<Spot>
     Some(*spot)
 }
 
-/// The latest that died so.
+/// Returns the latest that died within the range.
 fn latest_of(deaths: Deaths, spots: Range<'_, Spot>) -> Option<Spot>
     ensures { MatchOption result (filter (dies_within deaths) spots.entry ≡ [])
         (IsLatest (filter (dies_within deaths) spots.entry)) }
@@ -275,7 +278,7 @@ fn died_before(died: Option<Stamp>, from: u32) -> bool
     }
 }
 
-/// The latest that died so: the last one where deaths rise.
+/// Returns the latest that died within the range: the last one if deaths ascend.
 fn latest_spot(deaths: Deaths, spots: Range<'_, Spot>, rise: bool) -> Option<Spot>
     requires { rise ≡ true → DeathsRise (filter (dies_within deaths) spots) }
     ensures { MatchOption result (filter (dies_within deaths) spots.entry ≡ [])
@@ -288,7 +291,7 @@ fn latest_spot(deaths: Deaths, spots: Range<'_, Spot>, rise: bool) -> Option<Spo
     }
 }
 
-/// The version at a spot.
+/// Returns the version at a spot.
 fn version_at(versions: &VecDeque<Placed>, first: usize, spot: Spot) -> Option<&Versioned>
     requires { first ≤ spot.number }
     ensures { MatchOption result (slice_get versions.now.items (spot.number - first) ≡ None)
@@ -300,7 +303,8 @@ fn version_at(versions: &VecDeque<Placed>, first: usize, spot: Spot) -> Option<&
     }
 }
 
-/// The versions at the spots that died so are added to the found ones.
+/// Appends to the found versions those at the spots that died within the range. Fails only if memory cannot be
+/// allocated.
 fn take_found(
     versions: &VecDeque<Placed>,
     first: usize,
@@ -325,7 +329,7 @@ fn take_found(
     Ok(())
 }
 
-/// The version is added to the found ones, if there is one.
+/// Appends the version to the found ones, if there is one. Fails only if memory cannot be allocated.
 fn add_found(
     version: Option<&Versioned>,
     alloc: Global,
@@ -380,7 +384,7 @@ impl Replaced {
         Ok(())
     }
 
-    /// Drops the first, where it is gone.
+    /// Drops the first version, if it is purged.
     fn drop_first(&mut self)
         ensures { self.new ≡ self.old }
     {
@@ -395,7 +399,7 @@ impl Replaced {
         }
     }
 
-    /// Drops the first of those that are gone, at most so many.
+    /// Drops the first purged versions, at most `most` of them.
     fn drop_gone(&mut self, most: usize)
         ensures { self.new ≡ self.old }
     {
@@ -404,7 +408,7 @@ impl Replaced {
         }
     }
 
-    /// Adds a version that was replaced.
+    /// Appends a version that was replaced. Fails, and changes nothing, if there is no memory for it.
     pub(crate) fn add(&mut self, placed: Placed) -> Result<(), AllocError>
         ensures added { OnOk result (self.new ≡ self.old ++ placed ∷ []) }
         ensures unchanged { OnErr result (self.new ≡ self.old) }
@@ -426,7 +430,7 @@ impl Replaced {
         }
     }
 
-    /// Drops those that were added after there were so many.
+    /// Keeps the first `len` versions: undoes later additions.
     pub(crate) fn undo(&mut self, len: usize)
         ensures { self.new ≡ take len self.old }
     {
@@ -444,7 +448,7 @@ impl Replaced {
         }
     }
 
-    /// The first is gone.
+    /// Purges the first version.
     fn let_go(&mut self)
         ensures { self.new ≡ drop 1 self.old }
     {
@@ -453,8 +457,8 @@ impl Replaced {
         }
     }
 
-    /// Those at the front that died before the stamp are gone. One that was replaced before it and died later keeps
-    /// those after it. Not all are dropped at once, so that nobody waits for it.
+    /// Purges the versions at the front that died before the stamp. A version that died later keeps those
+    /// behind it. They are not dropped all at once, so that no thread waits for it.
     pub(crate) fn purge(&mut self, from: u32)
         ensures { self.new ≡ without_front_dead from self.old }
     {
@@ -464,7 +468,8 @@ impl Replaced {
         self.drop_gone(MOST_DROPPED);
     }
 
-    /// Those that did not die before the stamp.
+    /// Returns copies of the versions that did not die before the stamp. Fails only if memory cannot be
+    /// allocated.
     pub(crate) fn left(&self, alloc: Global, from: u32) -> Result<Replaced, AllocError>
         ensures { IfOk result (λ left. left ≡ placed_left from self.now) }
     {
@@ -478,7 +483,7 @@ impl Replaced {
         Ok(left)
     }
 
-    /// Whether more than so many match, of those that did not die before the stamp.
+    /// Returns `true` if more than `most` versions match, among those that did not die before the stamp.
     pub(crate) fn has_more(&self, query: &Query, from: usize, most: usize) -> bool
         requires each { AllByRecursion (λ x. IsStorable x.version) self.now }
         requires ended { AllByRecursion (λ x. x.version.died ≢ None) self.now }
@@ -494,7 +499,8 @@ impl Replaced {
         are_more(deaths, spots, most)
     }
 
-    /// The versions that match and did not die before the stamp are added to the found ones.
+    /// Appends to the found versions those that match and did not die before the stamp. Fails only if memory
+    /// cannot be allocated.
     pub(crate) fn find(
         &self,
         alloc: Global,
@@ -515,7 +521,8 @@ impl Replaced {
         take_found(&self.versions, self.first, deaths, spots, alloc, found)
     }
 
-    /// Of the versions of one id or one group that died from the one stamp to the other the one that died first.
+    /// Returns the version of one id or one group that died first, among those that died from the one stamp to
+    /// the other.
     fn first_dead(&self, query: &Query, low: usize, high: usize) -> Option<&Versioned>
         requires each { AllByRecursion (λ x. IsStorable x.version) self.now }
         requires key { has_one_key query.now ≡ true }
@@ -534,7 +541,7 @@ impl Replaced {
         }
     }
 
-    /// Of the versions that match and died from the one stamp to the other the one that died last.
+    /// Returns the matching version that died last, among those that died from the one stamp to the other.
     fn last_dead(&self, query: &Query, low: usize, high: usize) -> Option<&Versioned>
         requires each { AllByRecursion (λ x. IsStorable x.version) self.now }
         ensures { MatchOption result (dead_between query.now low high self.now ≡ [])
@@ -552,8 +559,8 @@ impl Replaced {
         }
     }
 
-    /// Of the versions that match and died at the stamp `from` or later, those are added to the found ones that died after
-    /// the stamp `at`, of one id the first of them alone.
+    /// Appends, of the matching versions that died at the stamp `from` or later, those that died after the
+    /// stamp `at`; of one id only the first of them.
     fn add_later(
         &self,
         alloc: Global,
@@ -577,7 +584,7 @@ impl Replaced {
         }
     }
 
-    /// Of the versions that match and died from the stamp `from` to the stamp `at` the last is added to the found ones.
+    /// Appends the matching version that died last from the stamp `from` to the stamp `at`.
     fn add_last(
         &self,
         alloc: Global,
@@ -594,8 +601,9 @@ impl Replaced {
         add_found(last, alloc, found)
     }
 
-    /// Adds to the found ones, of the versions that match and did not die before the stamp `from`, those that died after
-    /// the stamp `at`. Of one id it is the first of them alone. Of the others it adds the one that died last.
+    /// Appends, of the matching versions that did not die before the stamp `from`, those that died after the
+    /// stamp `at`, of one id only the first of them; and of the others the one that died last. Fails only if
+    /// memory cannot be allocated.
     pub(crate) fn find_around(
         &self,
         alloc: Global,

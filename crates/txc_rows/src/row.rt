@@ -12,20 +12,20 @@ pub const MAX_BODY_LEN: usize = 256;
 /// The most bytes of any body.
 pub const MAX_BYTES_LEN: usize = 65_536;
 
-/// The first and the last byte that a body of a script may hold: those that print and are no blank.
+/// The first and the last byte that the body of a script's row may have: printable ones without the blank.
 pub const FIRST_BODY_BYTE: u8 = 0x21;
 
 pub const LAST_BODY_BYTE: u8 = 0x7e;
 
-/// Why a row cannot be made.
+/// Errors of making a row.
 #[derive(Clone, Copy, Debug, PartialEq, Eq, Error)]
 pub enum RowError {
     /// The body is empty, longer than [`MAX_BODY_LEN`], or has a byte outside [`FIRST_BODY_BYTE`] to
     /// [`LAST_BODY_BYTE`].
-    #[error("a body is 1 to {MAX_BODY_LEN} bytes, each from 0x21 to 0x7E")]
+    #[error("the body is not 1 to {MAX_BODY_LEN} bytes, each from 0x21 to 0x7E")]
     BadBody,
     /// The body is longer than [`MAX_BYTES_LEN`].
-    #[error("a body is at most {MAX_BYTES_LEN} bytes")]
+    #[error("the body has more than {MAX_BYTES_LEN} bytes")]
     LongBody,
 }
 
@@ -61,7 +61,8 @@ fn is_body(body: &[u8]) -> bool
 }
 
 impl Row {
-    /// A row with a body that scripts can write. A body that is refused is dropped.
+    /// Makes a row with a body that scripts can write. Fails, and drops the body, if it is empty, longer than
+    /// [`MAX_BODY_LEN`], or has another byte.
     pub fn new(table: Table, id: u32, group: u32, body: Vec<u8>) -> Result<Row, RowError>
         ensures answer { IfOk result (λ r. r
             ≡ record { table = table; id = id; group = group; body = body.items }) }
@@ -79,7 +80,7 @@ impl Row {
         })
     }
 
-    /// A row with a body of any bytes. A body that is refused is dropped.
+    /// Makes a row with a body of any bytes. Fails, and drops the body, if it is longer than [`MAX_BYTES_LEN`].
     pub fn of_bytes(table: Table, id: u32, group: u32, body: Vec<u8>) -> Result<Row, RowError>
         ensures answer { IfOk result (λ r. r
             ≡ record { table = table; id = id; group = group; body = body.items }) }
@@ -97,28 +98,28 @@ impl Row {
         })
     }
 
-    /// The table in which it stands.
+    /// Returns its table.
     pub fn table(&self) -> Table
         ensures { result ≡ self.now.table }
     {
         self.table
     }
 
-    /// Its number in the table.
+    /// Returns its number in the table.
     pub fn id(&self) -> u32
         ensures { result ≡ self.now.id }
     {
         self.id
     }
 
-    /// The number of its group.
+    /// Returns the number of its group.
     pub fn group(&self) -> u32
         ensures { result ≡ self.now.group }
     {
         self.group
     }
 
-    /// The bytes that it holds.
+    /// Returns the bytes of its body.
     pub fn body(&self) -> &[u8]
         ensures answer { result.now ≡ self.now.body }
         ensures bounds { IsRow self.now }
@@ -126,7 +127,7 @@ impl Row {
         &self.body
     }
 
-    /// An equal row.
+    /// Returns an equal row. Fails only if memory cannot be allocated.
     pub fn copy(&self, alloc: Global) -> Result<Row, AllocError>
         ensures { IfOk result (λ r. r ≡ self.now) }
     {

@@ -1,4 +1,4 @@
-//! The statements that make and drop the table of last versions, and leave out what died.
+//! The statements that make, drop and rebuild the table of last versions.
 
 ghost use Rattle.std.specs.Prelude.{◌≡◌, ◌++◌, ◌∷◌, [], true, map, OnOk};
 ghost use Rattle.std.specs.List.Sorted.{IsPermutation};
@@ -30,7 +30,7 @@ fn drop_latest(tx: &mut Transaction<'_, MemStore>) -> Result<usize, Error>
     tx.execute(DROP_LATEST, &[])
 }
 
-/// Makes the table in a store that has none.
+/// Makes the table in an empty store.
 pub(crate) fn create(conn: &mut Connection<MemStore>) -> Result<(), Error>
     requires { IsEmpty (state over_memory conn.old) }
     ensures kept { OnOk result (IsKept conn.new) }
@@ -78,7 +78,7 @@ fn fill_latest(tx: &mut Transaction<'_, MemStore>, rows: &[sqlite::Row]) -> Resu
     Ok(())
 }
 
-/// The versions that did not die before the stamp.
+/// Returns the versions that did not die before the stamp.
 fn read_left(conn: &mut Connection<MemStore>, from: u32) -> Result<Vec<sqlite::Row>, Error>
     requires { IsKept conn.old }
     ensures { IsLeaving from conn.old conn.new result }
@@ -86,7 +86,7 @@ fn read_left(conn: &mut Connection<MemStore>, from: u32) -> Result<Vec<sqlite::R
     conn.query_all(READ_LEFT, params![from])
 }
 
-/// The table is made anew, with these versions.
+/// Rebuilds the table with these versions.
 fn refill(tx: &mut Transaction<'_, MemStore>, rows: &[sqlite::Row]) -> Result<(), Error>
     requires table { HasTable tx.old.conn.now }
     requires inside { tx.old.conn.now.in_transaction ≡ true }
@@ -99,7 +99,7 @@ fn refill(tx: &mut Transaction<'_, MemStore>, rows: &[sqlite::Row]) -> Result<()
     fill_latest(tx, rows)
 }
 
-/// Makes the table anew, with what did not die before the stamp. It answers how many versions that are.
+/// Rebuilds the table with the versions that did not die before the stamp, and returns how many these are.
 pub(crate) fn rebuild(conn: &mut Connection<MemStore>, from: u32) -> Result<usize, Error>
     requires { IsKept conn.old }
     ensures { IsCall (IsPermutation (placed_left from (latest_in conn.old))) conn.old conn.new result }

@@ -1,4 +1,4 @@
-//! The store of row versions, by the stamps that are stored.
+//! The store of row versions, by the stamps that it stores.
 
 ghost use Rattle.std.specs.Prelude.{◌≡◌, ◌≢◌, ℕ, ◌+◌, ◌-◌, ◌^◌, None, ◌<◌, ◌≤◌, [], true, false, Ok, IfOk, IfErr, OnOk, OnErr, length, filter, map};
 ghost use Rattle.std.specs.List.{AllByRecursion};
@@ -23,17 +23,17 @@ use std::alloc::Global;
 use std::marker::Model;
 use txc_stamp::Stamp;
 
-/// Row versions by the stamps that are stored: the last ones, and those that later ones replaced beside them. Contracts see the
-/// list of its versions, the earliest put first.
+/// Row versions by stored stamps: the last ones, and next to them those that later ones replaced. Contracts see
+/// the list of all versions, the earliest put first.
 #[derive(Drop)]
 pub struct Store {
     latest: Latest,
     replaced: Replaced,
-    /// The place of the next version: each that is stored has a lower one.
+    /// The place of the next version. Each stored version has a lower one.
     next_place: u32,
-    /// Versions that died before it are gone, though they may still be stored.
+    /// Versions that died before this stamp are purged, though they may still be stored.
     kept_from: u32,
-    /// Last versions that `current` has read since the last write, so that a put of one does not read it again.
+    /// Last versions that `current` has read since the last write, so that a put of one need not read it again.
     known: Vec<Placed>,
     counts: Counts,
     alloc: Global,
@@ -55,7 +55,7 @@ impl Model for Store {
         × (length a.known.items ≤ MOST_KNOWN + MOST_MATCHING) };
 }
 
-/// The next place after so many more versions, if there are so many.
+/// Returns the place after `more` more versions. Fails if there are not that many places.
 fn place_after(place: u32, more: usize) -> Result<u32, sqlite::Error>
     ensures next { IfOk result (λ next. next ≡ place + more) }
     ensures room { OnOk result (place + more < 2 ^ 32) }
@@ -66,7 +66,8 @@ fn place_after(place: u32, more: usize) -> Result<u32, sqlite::Error>
     Ok(place + more as u32)
 }
 
-/// Makes a table of last versions anew without what died before the stamp, where that is as much as what is left.
+/// Rebuilds a table of last versions without those that died before the stamp, if these are as many as the
+/// others.
 fn sweep(latest: &mut Latest, counts: &mut Counts, from: u32) -> Result<(), sqlite::Error>
     requires { AllByRecursion (λ x. IsStorable x.version) latest.old }
     ensures swept { OnOk result (AreSwept from latest.old latest.new) }
@@ -79,7 +80,8 @@ fn sweep(latest: &mut Latest, counts: &mut Counts, from: u32) -> Result<(), sqli
     Ok(())
 }
 
-/// Before a write at the stamp: no death at the stamp is hidden. It answers from which stamp on deaths are shown.
+/// Prepares a write at the stamp: unhides the versions that died at it. Returns the stamp from which on deaths
+/// are shown.
 fn make_room(
     latest: &mut Latest,
     replaced: &mut Replaced,
@@ -108,8 +110,8 @@ fn make_room(
     Ok(0)
 }
 
-/// Refuses a query of which too many versions match, those that were replaced beside so many last ones. They are counted
-/// where all of them would be too many.
+/// Fails if more than `most` versions match the query: `last` last ones and the matching replaced ones. It
+/// counts the replaced ones only if all of them would be too many.
 fn check_few(
     replaced: &Replaced,
     query: &Query,
@@ -134,7 +136,7 @@ fn check_few(
     Ok(())
 }
 
-/// By id, and then by birth.
+/// Sorts the versions by id and then by birth. Fails only if memory cannot be allocated.
 fn sort(versions: &mut Vec<Versioned>) -> Result<(), StoreError>
     ensures same { IsPermutation versions.old.items versions.new.items }
     ensures sorted { OnOk result (IsSorted version_cmp versions.new.items) }
@@ -144,7 +146,8 @@ fn sort(versions: &mut Vec<Versioned>) -> Result<(), StoreError>
     Ok(())
 }
 
-/// The versions that match, of those that did not die before the stamp, by id and then by birth.
+/// Returns the versions that match and did not die before the stamp, by id and then by birth. Fails if there
+/// are more than [`MAX_MATCHING`], if there is no memory, or with an error of SQLite.
 fn find_all(
     latest: &mut Latest,
     replaced: &Replaced,
@@ -167,8 +170,8 @@ fn find_all(
     Ok(found)
 }
 
-/// Of the versions that match and did not die before the stamp `from`, those that are not needless at the stamp `at`, by id
-/// and then by birth.
+/// Returns, of the matching versions that did not die before the stamp `from`, those that matter at the stamp
+/// `at`, by id and then by birth.
 fn find_around(
     latest: &mut Latest,
     replaced: &Replaced,
@@ -195,7 +198,7 @@ fn find_around(
     Ok(found)
 }
 
-/// The last versions that match, of those that did not die before the stamp.
+/// Returns the last versions that match and did not die before the stamp.
 fn find_last(
     latest: &mut Latest,
     known: &mut Vec<Placed>,
@@ -224,7 +227,7 @@ fn find_last(
     Ok(last)
 }
 
-/// The versions that match and have not died, by id and then by birth.
+/// Returns the versions that match and have not died, by id and then by birth.
 fn find_current(
     latest: &mut Latest,
     known: &mut Vec<Placed>,
@@ -261,7 +264,7 @@ impl Store {
         Ok(Store::of(latest, alloc))
     }
 
-    /// A store whose last versions lie in no table.
+    /// Opens a store that keeps its last versions outside of SQLite.
     pub(crate) fn open_plain(alloc: Global) -> Store
         ensures { result ≡ [] }
     {
@@ -299,7 +302,7 @@ impl Store {
         )
     }
 
-    /// What of the matching versions is not needless at the stamp.
+    /// Returns those of the matching versions that matter at the stamp.
     pub(crate) fn matching_at(
         &mut self,
         query: &Query,
@@ -395,7 +398,7 @@ impl Store {
         Ok(())
     }
 
-    /// Whether half of the places are given to versions already.
+    /// Returns `true` if half of the places are used.
     pub(crate) fn is_half_full(&self) -> bool {
         self.next_place > u32::MAX / 2
     }

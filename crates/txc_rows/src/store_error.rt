@@ -5,25 +5,25 @@ use std::alloc::{AllocError, AllocFailed};
 use std::fmt;
 use thiserror::Error;
 
-/// The most versions that may match a query, unless more are allowed.
+/// The most versions that may match a query, unless a greater number is set.
 pub const MAX_MATCHING: usize = 1024;
 
-/// The most that can be allowed.
+/// The greatest number that can be set.
 pub const MOST_MATCHING: usize = 65_536;
 
-/// Why a call of the store of row versions was refused. After it the versions are as they were.
+/// Errors of the store of row versions. After an error the versions are as they were.
 #[derive(Clone, Copy, Debug, PartialEq, Eq, Error)]
 pub enum StoreError {
-    /// More versions match the query than may: than [`MAX_MATCHING`], or than the greater number that was allowed.
-    #[error("too many versions match")]
+    /// More versions match the query than are allowed: [`MAX_MATCHING`], or the greater number that was set.
+    #[error("too many versions match the query: at most {MAX_MATCHING} may, or up to {MOST_MATCHING} if so set")]
     TooManyRows,
-    /// The store refused for another reason than memory. Its transaction was rolled back.
-    #[error("the store refused: {0}")]
+    /// SQLite failed for another reason than memory. Its transaction was rolled back.
+    #[error("the store of rows failed: {0}")]
     Store(sqlite::Error),
-    /// The store was out of memory for its own work. Its transaction was rolled back.
-    #[error("the store refused: out of memory")]
+    /// SQLite had no memory for its own work. Its transaction was rolled back.
+    #[error("the store of rows failed: out of memory")]
     StoreMemory,
-    /// The allocator had no memory for the answer.
+    /// Memory for the answer cannot be allocated.
     #[error("out of memory")]
     Memory,
 }

@@ -1,13 +1,13 @@
-//! What follows from the definitions for stores of versions. Each is a lemma: it has no code.
+//! Lemmas about stores of versions. They have no code.
 ghost use Rattle.txc_rows.specs.Uses.{UsesAnswer, KeepsNothing, KeepsAgreed, KeepsQuiet};
 
-/// What is found in a store shows the answers at every stamp from the last horizon on, whatever was written
-/// to it at rising stamps and purged at rising horizons.
+/// The versions found in a store give the answers at every stamp from the last horizon on, if the store was
+/// written at ascending stamps and purged at ascending horizons.
 pub fn versions_answer()
     ensures { UsesAnswer }
 {}
 
-/// A store goes on keeping the states of a history where nothing is done to it.
+/// A store keeps the states of a history while nothing is done to it.
 pub fn versions_keep_states()
     ensures nothing { KeepsNothing }
     ensures agreed { KeepsAgreed }

@@ -10,8 +10,8 @@ use txc_parts::Parts;
 
 /// A pointer to a store, or to none.
 ///
-/// Each function of the crates above carries the layout of every type that its own types reach, and a store reaches some
-/// hundred of SQLite's. So the pointer is to a byte.
+/// Each function of the crates above has the layout of every type that its own types reach, and a store reaches
+/// some hundred types of SQLite. So the pointer is to a byte.
 pub(crate) struct StoreSlot {
     ptr: *mut u8,
     alloc: Global,
@@ -20,7 +20,7 @@ pub(crate) struct StoreSlot {
 }
 
 impl Drop for StoreSlot {
-    /// A slot that is full is not let go: its store would never be freed.
+    /// A full slot must not be dropped: its store would never be freed.
     fn drop(self)
         requires { self.is_full ≡ false }
     {
@@ -68,14 +68,14 @@ impl StoreSlot {
         }
     }
 
-    /// The slot of a store.
+    /// Makes the slot of a store.
     pub(crate) fn of(store: Box<Store, Global>) -> StoreSlot
         ensures { (result.is_full ≡ true) × (result.value ≡ store.value) }
     {
         StoreSlot::of_parts(Parts::of(store))
     }
 
-    /// The store that is there.
+    /// Returns the store.
     pub(crate) fn into_store(self) -> Box<Store, Global>
         requires { self.is_full ≡ true }
         ensures { result.value ≡ self.value }
@@ -83,7 +83,7 @@ impl StoreSlot {
         self.into_parts().into_box()
     }
 
-    /// Takes the store out that is there.
+    /// Takes the store out, and leaves the slot empty.
     pub(crate) fn take(&mut self, alloc: Global) -> Box<Store, Global>
         requires { self.old.is_full ≡ true }
         ensures store { result.value ≡ self.old.value }
@@ -92,7 +92,7 @@ impl StoreSlot {
         mem::replace(self, StoreSlot::empty(alloc)).into_store()
     }
 
-    /// Puts a store in where there is none.
+    /// Puts a store into an empty slot.
     pub(crate) fn put(&mut self, store: Box<Store, Global>)
         requires { self.old.is_full ≡ false }
         ensures { (self.new.is_full ≡ true) × (self.new.value ≡ store.value) }
@@ -101,5 +101,5 @@ impl StoreSlot {
     }
 }
 
-// What the slot points to may go to another thread, and so may the slot.
+// A store may go to another thread, and so may the slot that points to it.
 unsafe impl Send for StoreSlot {}

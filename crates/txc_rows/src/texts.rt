@@ -1,4 +1,5 @@
-//! The texts of the statements on the table of last versions: of each table, id and group the last one.
+//! The texts of the statements on the table of last versions, which has the last version of each table, id and
+//! group.
 
 /// The second key finds the versions of a group.
 pub(crate) const MAKE_LATEST: &str =
@@ -14,16 +15,17 @@ pub(crate) const ADD_LATEST: &str =
     "INSERT INTO latest (place, table_number, id, born, group_number, body, died) \
      VALUES (?1, ?2, ?3, ?4, ?5, ?6, ?7)";
 
-/// The current version of a table and id dies.
+/// Ends the current version of a table and id.
 pub(crate) const END_VERSION: &str =
     "UPDATE latest SET died = ?3 WHERE table_number = ?1 AND id = ?2 AND died IS NULL";
 
-/// A new version stands in the place of the last one of its table, id and group.
+/// Replaces the last version of its table, id and group by a new one.
 pub(crate) const RENEW_LATEST: &str =
     "UPDATE latest SET place = ?4, born = ?5, body = ?6, died = NULL \
      WHERE table_number = ?1 AND id = ?2 AND group_number = ?3";
 
-/// The versions of a table and id that a put ends or replaces: the current one, and the last of the group.
+/// The versions of a table and id that a put ends or replaces: the current one, and the last of the new one's
+/// group.
 pub(crate) const READ_LAST: &str =
     "SELECT place, table_number, id, born, group_number, body, died FROM latest \
      WHERE table_number = ?1 AND id = ?2 AND (died IS NULL OR group_number = ?3)";
@@ -40,8 +42,8 @@ pub(crate) const READ_LEFT: &str =
 
 // ---- what queries read
 
-/// Versions of a table that did not die before a stamp, at most so many of them. Each has a test of its own, which
-/// the store answers by a key of the table. They come in no order, since to put them in one each would be read.
+/// Versions of a table that did not die before a stamp, at most as many as the limit. Each text adds a test
+/// that the store answers by a key of the table. They come in no order, since sorting would read all of them.
 macro_rules! read_text {
     ($test:literal) => {
         concat!(

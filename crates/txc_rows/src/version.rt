@@ -5,8 +5,8 @@ use crate::row::Row;
 use std::alloc::{AllocError, Global};
 use txc_stamp::Stamp;
 
-/// A row with the stamps at which it stands: from `born` to the stamp before `died`, or on while that is
-/// None.
+/// A row with the stamps at which it is in the state: from `born` to the stamp before `died`, or without end if
+/// that is `None`.
 #[derive(Debug, Drop)]
 pub struct Versioned {
     pub row: Row,
@@ -15,7 +15,7 @@ pub struct Versioned {
 }
 
 impl Versioned {
-    /// Whether the row stands at the stamp.
+    /// Returns `true` if the row is in the state at the stamp.
     pub fn is_visible(&self, at: Stamp) -> bool
         ensures { result ≡ is_visible at self.now }
     {
@@ -26,7 +26,7 @@ impl Versioned {
         self.born <= at && lives
     }
 
-    /// An equal version.
+    /// Returns an equal version. Fails only if memory cannot be allocated.
     pub(crate) fn copy(&self, alloc: Global) -> Result<Versioned, AllocError>
         ensures { IfOk result (λ v. v ≡ self.now) }
     {

@@ -1,4 +1,4 @@
-//! The store of row versions, by the stamps of one history after another.
+//! The store of row versions, used by one history after another.
 
 ghost use Rattle.std.specs.Prelude.{◌≡◌, ℕ, ◌+◌, ◌<◌, ◌≤◌, [], Err, IfOk, IfErr, OnOk, OnErr, length, filter, map};
 ghost use Rattle.txc_rows.specs.Versions.{suits, current, purged, after_net, counted_from};
@@ -18,8 +18,8 @@ use std::alloc::Global;
 use std::marker::Model;
 use txc_stamp::{MOST_STAMP, Stamp};
 
-/// Row versions in a store in memory: the last ones in a table of SQLite or in ordered maps, and those that later ones replaced
-/// beside them. Contracts see the list of its versions, the earliest put first.
+/// Row versions in a store in memory: the last ones in a table of SQLite or in ordered maps, and next to them
+/// those that later ones replaced. Contracts see the list of all versions, the earliest put first.
 pub struct VersionRows {
     slot: StoreSlot,
     alloc: Global,
@@ -50,12 +50,12 @@ impl Model for VersionRows {
     ghost invariant = { λ a. a.slot.is_full ≡ true };
 }
 
-/// The refusal of a store whose stamps or places are used up.
+/// Makes the error of a store whose stamps or places are used up.
 fn used_up() -> sqlite::Error {
     sqlite::Error::SqliteFailure(sqlite::ErrorCode::NoRowid)
 }
 
-/// The stamp as it is stored, if there are so many.
+/// Returns the stamp as it is stored. Fails if the store has no such stamp left.
 fn stored_stamp(stamp: Stamp, first: u32) -> Result<Stamp, sqlite::Error>
     ensures { IfOk result (λ stored. stored ≡ stamp + first) }
 {
@@ -65,7 +65,7 @@ fn stored_stamp(stamp: Stamp, first: u32) -> Result<Stamp, sqlite::Error>
     Ok(Stamp::after((stamp.number() + first) as usize))
 }
 
-/// Refuses to begin anew where half of the stamps or of the places are used up.
+/// Fails if half of the stamps or of the places are used up.
 fn check_room(stored: Stamp, is_half_full: bool) -> Result<(), sqlite::Error> {
     if is_half_full || stored.number() > MOST_STAMP / 2 {
         return Err(used_up());
@@ -92,14 +92,15 @@ fn count_each(versions: &mut [Versioned], first: u32)
     }
 }
 
-/// The versions by the stamps of the present history.
+/// Converts the versions to stamps of the present history.
 fn count_all(versions: &mut Vec<Versioned>, first: u32)
     ensures { versions.new.items ≡ map (counted_from first) versions.old.items }
 {
     count_each(versions, first);
 }
 
-/// Has the store delete what died at the stamp or before, where half of its stamps and of its places are left.
+/// Deletes the versions that died at the stamp or before. Fails if half of the store's stamps or of its places
+/// are used up.
 fn begin_store_at(store: &mut Store, stored: Stamp) -> Result<(), StoreError>
     ensures after { OnOk result (store.new ≡ purged stored store.old) }
     ensures unchanged { OnErr result (store.new ≡ store.old) }
@@ -111,8 +112,8 @@ fn begin_store_at(store: &mut Store, stored: Stamp) -> Result<(), StoreError>
 }
 
 impl VersionRows {
-    /// A store that has no version. The last version of each table, id and group lies in a table of SQLite. It is refused where the
-    /// store is out of memory.
+    /// Opens an empty store. A table of SQLite has the last version of each table, id and group. Fails if the
+    /// store has no memory.
     pub fn open_in_memory(alloc: Global) -> Result<VersionRows, StoreError>
         ensures answer { IfOk result (λ rows. rows ≡ []) }
         ensures keeps { IfOk result (λ rows.
@@ -122,8 +123,8 @@ impl VersionRows {
         VersionRows::hold(Store::open_in_memory(alloc)?, alloc)
     }
 
-    /// A store that has no version. The current ones will lie in ordered maps, by table and id and by table and group: a change
-    /// takes a small part of the time that it takes in SQLite. It is refused where the store is out of memory.
+    /// Opens an empty store. Ordered maps have the current versions, by table and id and by table and group: a
+    /// change takes a small part of its time in SQLite. Fails if there is no memory.
     pub fn open_plain(alloc: Global) -> Result<VersionRows, StoreError>
         ensures answer { IfOk result (λ rows. rows ≡ []) }
         ensures keeps { IfOk result (λ rows.
@@ -133,7 +134,7 @@ impl VersionRows {
         VersionRows::hold(Store::open_plain(alloc), alloc)
     }
 
-    /// Holds a store that has no version.
+    /// Wraps an empty store.
     fn hold(store: Store, alloc: Global) -> Result<VersionRows, StoreError>
         requires { store ≡ [] }
         ensures answer { IfOk result (λ rows. rows ≡ []) }
@@ -151,7 +152,8 @@ impl VersionRows {
         })
     }
 
-    /// The versions that match, by id and then by birth. No other version is looked at.
+    /// Returns the versions that match, by id and then by birth. It looks at no other version. Fails if more
+    /// than [`MAX_MATCHING`] match.
     pub fn matching(&mut self, query: &Query) -> Result<Vec<Versioned>, StoreError>
         ensures same { self.new ≡ self.old }
         ensures answer { IfOk result (λ found. Finds query.now self.old found.items) }
@@ -168,11 +170,12 @@ impl VersionRows {
         Ok(found)
     }
 
-    /// Of the versions that match, by id and then by birth, those that decide the answer at the stamp and how far it reaches.
-    /// What died long before the stamp is not copied, and of a row that was often replaced after it only the next.
+    /// Returns, of the versions that match, by id and then by birth, those that decide the answer at the stamp
+    /// and how far it holds. Versions that died long before the stamp are not copied, and of a row that was
+    /// often replaced after it only the next one is.
     ///
-    /// It is refused if more than `most` versions match, also those that it leaves out. They are counted if so many were
-    /// replaced in all.
+    /// Fails if more than `most` versions match, including those that it leaves out. They are counted only if
+    /// more than `most` were replaced in all.
     pub fn matching_at(
         &mut self,
         query: &Query,
@@ -196,8 +199,8 @@ impl VersionRows {
         Ok(found)
     }
 
-    /// The versions that match and have not died, by id and then by birth: those that the newest state has. It is refused
-    /// as [`VersionRows::matching_at`] is, also if versions that have died make too many.
+    /// Returns the versions that match and have not died, by id and then by birth: those of the newest state.
+    /// Fails if more than `most` versions match, including those that have died.
     pub fn current(&mut self, query: &Query, most: usize) -> Result<Vec<Versioned>, StoreError>
         requires { most ≤ MOST_MATCHING }
         ensures same { self.new ≡ self.old }
@@ -215,8 +218,9 @@ impl VersionRows {
         Ok(found)
     }
 
-    /// Writes the net changes of the commit with this stamp, all or none. A change ends the current version
-    /// of its table and id at the stamp; a put adds one that is born there.
+    /// Writes the net changes of the commit with this stamp, all or none. A change ends the current version of
+    /// its table and id at the stamp; a put adds one that is born there. Fails, and writes none, if memory
+    /// cannot be allocated, or with an error of SQLite.
     pub fn write(&mut self, net: &[Change], stamp: Stamp) -> Result<(), StoreError>
         ensures after { OnOk result (self.new ≡ after_net stamp net.now self.old) }
         ensures keeps { OnOk result (KeepsWritten net.now stamp self.old self.new) }
@@ -231,7 +235,8 @@ impl VersionRows {
         Ok(())
     }
 
-    /// Deletes the versions that died at the horizon or before: no stamp from the horizon on has shown them.
+    /// Deletes the versions that died at the horizon or before: they are in no state from the horizon on.
+    /// Fails, and deletes none, if memory cannot be allocated, or with an error of SQLite.
     pub fn purge(&mut self, horizon: Stamp) -> Result<(), StoreError>
         ensures after { OnOk result (self.new ≡ purged horizon self.old) }
         ensures keeps { OnOk result (KeepsPurged horizon self.old self.new) }
@@ -246,11 +251,11 @@ impl VersionRows {
         Ok(())
     }
 
-    /// Deletes the versions that died at the stamp or before, and counts stamps from it on: it is 0 from now on, as is
-    /// each before it. It takes no memory, and no time for the versions that are left.
+    /// Deletes the versions that died at the stamp or before, and counts stamps from it on: the stamp, and each
+    /// before it, becomes 0. It does not allocate, and its time does not depend on the versions that are left.
     ///
-    /// A store has room for as many stamps and as many puts as there are stamps, in all its histories. Where half of either is used up,
-    /// this is refused.
+    /// In all its histories together, a store has room for as many stamps, and for as many puts, as there are
+    /// stamps. Fails if half of either is used up.
     pub fn begin_at(&mut self, stamp: Stamp) -> Result<(), StoreError>
         ensures after { OnOk result (self.new ≡ map (counted_from stamp) (purged stamp self.old)) }
         ensures keeps { OnOk result (KeepsBegun stamp self.old self.new) }
@@ -266,8 +271,9 @@ impl VersionRows {
         Ok(())
     }
 
-    /// Limits the steps of each later statement of the store, or takes the limit away. It is for tests: it
-    /// stops a statement in the middle, with an error of the store, and nothing of that call is left written.
+    /// Limits the steps of each later statement of the store, or removes the limit. It is for tests: a
+    /// statement over the limit stops in the middle, with an error of the store, and nothing of that call stays
+    /// written.
     pub fn set_step_limit(&mut self, limit: Option<u64>)
         ensures { self.new ≡ self.old }
     {

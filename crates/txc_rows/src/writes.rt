@@ -1,4 +1,4 @@
-//! What the changes of a commit write: last versions to the table, and those that they replace to memory.
+//! Writing a commit's changes: last versions go to the table, and those that they replace to memory.
 
 ghost use Rattle.std.specs.Prelude.{◌≡◌, ◌++◌, ◌∷◌, ◌==◌, [], ◌≤◌, ◌<◌, ◌+◌, ◌^◌, true, false, is_none, not, None, if◌then◌else◌, map, length, filter, option_to_list, IfOk, IfSome, OnOk, OnErr};
 ghost use Rattle.std.specs.List.{AllByRecursion, Contains};
@@ -23,8 +23,8 @@ use std::alloc::{AllocError, Global};
 use txc_stamp::Stamp;
 use txc_tags::Table;
 
-/// How many versions died in the table, how many dead ones were replaced in it, and how many are the first of their
-/// table, id and group.
+/// Numbers of versions that died in the table, of dead ones that were replaced in it, and of those that are the
+/// first of their table, id and group.
 #[derive(Clone, Copy)]
 pub(crate) struct Written {
     pub ended: usize,
@@ -100,7 +100,7 @@ fn end_version(
     )
 }
 
-/// A new version stands in the place of the last one of its table, id and group.
+/// Replaces the last version of its table, id and group by a new one.
 fn renew_latest(
     tx: &mut Transaction<'_, MemStore>,
     place: u32,
@@ -129,7 +129,7 @@ fn renew_latest(
     )
 }
 
-/// The versions that a put of the table, id and group ends or replaces.
+/// Returns the versions that a put of the table, id and group ends or replaces.
 fn read_last(
     tx: &mut Transaction<'_, MemStore>,
     table: Table,
@@ -155,7 +155,7 @@ fn is_of(placed: &Placed, table: Table, id: u32) -> bool
     row.table() == table && row.id() == id
 }
 
-/// The known one of the row's table, id and group that has not died, if there is one.
+/// Returns the known version of the row's table, id and group, if it has not died.
 fn last_known<'a>(known: &'a [Placed], row: &Row) -> Option<&'a Placed>
     ensures { IfSome result (λ one. Contains known.now one.now
         × (has_key row.now.table row.now.id row.now.group one.now ≡ true) × (one.now.version.died ≡ None)) }
@@ -169,7 +169,7 @@ fn last_known<'a>(known: &'a [Placed], row: &Row) -> Option<&'a Placed>
     None
 }
 
-/// Leaves out those of a table and id.
+/// Forgets the known versions of a table and id.
 fn forget(known: &mut Vec<Placed>, table: Table, id: u32)
     ensures { known.new.items ≡ filter (λ x. not (is_at table id x.version.row)) known.old.items }
 {
@@ -186,8 +186,8 @@ fn alone(alloc: Global, one: &Placed) -> Result<Vec<Placed>, AllocError>
 
 // ---- a put
 
-/// The versions that a put of the row ends or replaces. Where the last one of its group is known not to have died, it is
-/// the only one, and nothing is read.
+/// Returns the versions that a put of the row ends or replaces. If the last one of its group is known to be
+/// alive, it is the only one, and nothing is read.
 fn find_touched(
     tx: &mut Transaction<'_, MemStore>,
     known: &[Placed],
@@ -215,7 +215,7 @@ fn find_touched(
     all_placed_from(alloc, row.table(), &rows)
 }
 
-/// The one of the group, if there is one, and whether there is one of another group.
+/// Returns the version of the group, if there is one, and whether there is one of another group.
 fn of_group(mut last: Vec<Placed>, group: u32) -> (Option<Placed>, bool)
     requires few { length (filter (in_group group) last.items) ≤ 1 }
     ensures same { option_to_list result.0 ≡ filter (in_group group) last.items }
@@ -227,7 +227,7 @@ fn of_group(mut last: Vec<Placed>, group: u32) -> (Option<Placed>, bool)
     (last.pop(), moves)
 }
 
-/// Ends the current version, where it is of another group than the new one.
+/// Ends the current version if the new one is of another group.
 fn end_moved(
     tx: &mut Transaction<'_, MemStore>,
     table: Table,
@@ -249,7 +249,8 @@ fn end_moved(
     end_version(tx, table, id, stamp)
 }
 
-/// The last version of the group, if there is one, is replaced, and dies at the stamp if it has not died.
+/// Moves the last version of the group, if there is one, to the replaced ones. It dies at the stamp if it has
+/// not died.
 pub(crate) fn replace(
     replaced: &mut Replaced,
     last: Option<Placed>,
@@ -275,7 +276,7 @@ pub(crate) fn replace(
     Ok(revived)
 }
 
-/// The new version stands in the place of the last one of its table, id and group, or is the first of them.
+/// Puts the new version at the place of the last one of its table, id and group, or as the first of them.
 fn put_version(
     tx: &mut Transaction<'_, MemStore>,
     place: u32,
@@ -337,7 +338,7 @@ fn write_put(
 
 // ---- a commit
 
-/// Writes a change. What is known of its table and id is known no longer.
+/// Writes a change, and forgets the known versions of its table and id.
 fn write_change(
     tx: &mut Transaction<'_, MemStore>,
     replaced: &mut Replaced,
@@ -376,8 +377,8 @@ fn write_change(
     }
 }
 
-/// Writes the changes of one commit to the table, all or none. Those that they replace are added to the others, also
-/// where the commit is refused.
+/// Writes the changes of one commit to the table, all or none. The versions that they replace are added to
+/// `replaced`, even if the commit fails.
 fn write_table(
     conn: &mut Connection<MemStore>,
     replaced: &mut Replaced,
@@ -409,8 +410,8 @@ fn write_table(
     Ok(written)
 }
 
-/// Writes the changes of one commit, all or none. The versions that they put have places from this one on. What is known
-/// of the table is not read again.
+/// Writes the changes of one commit, all or none. The versions that they put have places from `place` on. Known
+/// versions of the table are not read again.
 pub(crate) fn write_all(
     conn: &mut Connection<MemStore>,
     replaced: &mut Replaced,

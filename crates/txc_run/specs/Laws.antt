@@ -1,4 +1,4 @@
--- What the lines of a script are and what they give, in the words of their rules.
+-- The uniqueness of a line's meaning, and of its result.
 use Rattle.std.specs.Prelude.{◌≡◌, ◌≢◌, ℕ, List}
 use Rattle.std.specs.List.{All}
 use Rattle.txc_node.specs.declared.op.Op.{Op}
@@ -22,16 +22,16 @@ NoQuietLineNamesAStep = (line : List ℕ) (op : Op) → IsQuiet line → IsStepL
 abbrev pub NamesOneStep : Type 0
 NamesOneStep = (line : List ℕ) (a b : Op) → IsStepLine line a → IsStepLine line b → a ≡ b
 
--- of no reply, a step, an insertion that cannot be made and malformed, a line is one at most
+-- a line is at most one of these: quiet, a step, an insertion that cannot be made, and malformed
 abbrev pub IsOneThing : Type 0 → Type 0
 IsOneThing F = (line : List ℕ) (a b : Line) → IsLine F line a → IsLine F line b → a ≡ b
 
--- no step was refused for memory
+-- no step was refused for want of memory
 abbrev pub HadMemory : List (Given Op (Reply Shown)) → Type 0
 HadMemory given = All (λ g. (op : Op) → g ≢ Replied op (Refused Memory)) given
 
--- Lines that are answered from one state, where no step is refused for memory, are answered in one way: they
--- give the same, and leave the same state, whatever the faults are that lines of a kind alone have.
+-- Lines from one state, of which no step is refused for want of memory, have only one result: the same replies
+-- and the same last state, whatever the faults that only lines of this kind have.
 abbrev pub AreAnsweredOneWay : Type 0 → Type 0
 AreAnsweredOneWay F = (mode : Mode) (c : Cache) (number : ℕ) (lines : List (List ℕ))
     (a b : List (Given Op (Reply Shown))) (end other : Cache)

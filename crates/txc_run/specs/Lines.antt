@@ -1,4 +1,4 @@
--- What the lines of a node's script are: the table of their forms.
+-- The table of the forms of a node's script.
 use Rattle.std.specs.Prelude.{ℕ, Bool, List, [], ◌∷◌, codes}
 use Rattle.txc_tags.specs.Keys.{Call}
 use Rattle.txc_tags.specs.declared.tag.Tag.{Tag}

@@ -1,4 +1,4 @@
--- Scripts of a node: what their lines ask for and what they give, by the mode of the run.
+-- Scripts of a node: the requests of their lines and the replies, by the mode of the run.
 use Rattle.std.specs.Prelude.{◌≡◌, ℕ, false, List, [], ◌∷◌, ◌++◌}
 use Rattle.txc_settings.specs.declared.mode.Mode.{Mode}
 use Rattle.txc_settings.specs.declared.mode.Mode.TheVariants.{Node, Report}
@@ -14,28 +14,28 @@ use Rattle.txc_script.specs.LineFaults.{IsCommandFault}
 use Rattle.txc_run.specs.Lines.{Spells, node_forms}
 use Rattle.txc_run.specs.Reports.{report_text}
 
--- what is written of a reply at once: a report writes none
+-- the text of a reply, written at once: none for a report
 abbrev pub reply_line : Mode → Reply Shown → List ℕ
 reply_line Node reply = reply_text reply ++ 10 ∷ []
 reply_line Report reply = []
 
--- what is written after all lines, none of which was malformed: the report
+-- the text after all lines, none of which was malformed: the report
 abbrev pub closing_text : Mode → List (Given Op (Reply Shown)) → List ℕ
 closing_text Node given = []
 closing_text Report given = report_text given
 
--- the cache stays, and no refusal is written
+-- the cache is unchanged, and no refusal is written
 abbrev pub CloseNode : Mode → Cache → List (Given Op (Reply Shown)) → Closing → Cache → Type 0
 CloseNode mode c given closing next =
     (closing ≡ record { text = closing_text mode given; is_refused = false }) × (next ≡ c)
 
--- memory may be refused for a report alone
+-- only a report may lack memory at the end
 abbrev pub MayBreakAtEnd : Mode → Type 0
 MayBreakAtEnd Node = ⊥
 MayBreakAtEnd Report = Unit {0}
 
--- A script of a node's lines, each of which names a step. Of the cache that is left where memory is refused
--- nothing is said: no line finds it.
+-- A script of a node's lines, each of which names a step. Nothing is stated of the cache that is left if there
+-- is no memory: no line finds it.
 abbrev pub node_script : {F : Type 0} → Mode → ScriptKind Cache Op (Reply Shown) F
 node_script mode = record {
   asks = λ c. Spells;

@@ -1,4 +1,4 @@
--- What a line is, in the words of a law.
+-- The meanings of a line, for the statement of a law.
 use Rattle.std.specs.Prelude.{◌≡◌, ⊤, ℕ, List, Some, None}
 use Rattle.txc_node.specs.declared.value.TheConstants.{MAX_VALUE_LEN}
 use Rattle.txc_node.specs.Cache.{Cache}
@@ -29,14 +29,14 @@ NamesStep Is op = Is op × CanBeMade op
 abbrev pub IsUnmade : (Op → Type 0) → EntryError → Type 0
 IsUnmade Is error = (e : Entry) × Is (Insert e) × (entry_refusal MAX_VALUE_LEN e ≡ Some (refusal_by error))
 
--- what a line is: one without a reply, a step, an insertion whose entry cannot be made, or none of these
+-- the meaning of a line: none, a step, an insertion whose entry cannot be made, or malformed
 pub data Line : Type 0 where
   Quiet : Line
   Step : Op → Line
   Unmade : EntryError → Line
   Malformed : Line
 
--- the bytes are such a line, where these are the faults that lines of a kind alone have
+-- the bytes are such a line, with these faults that only lines of this kind have
 abbrev pub IsLine : Type 0 → List ℕ → Line → Type 0
 IsLine F bytes Quiet = IsQuiet bytes
 IsLine F bytes (Step op) = NamesStep (IsStepLine bytes) op

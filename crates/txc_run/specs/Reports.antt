@@ -1,4 +1,4 @@
--- What a report says of what lines give: counts of the replies by function, and in all.
+-- The text of a report on the lines' replies: counts of the replies by function, and in all.
 use Rattle.std.specs.Prelude.{◌≡◌, ℕ, List, [], ◌∷◌, ◌++◌, Option, Some, None, nat_eq, not, filter, codes, if◌then◌else◌}
 use Rattle.std.specs.Fmt.{decimal}
 use Rattle.std.specs.List.{flat_map, list_any, sum_by}
@@ -12,13 +12,13 @@ use Rattle.txc_node.specs.Steps.{is_refusal, function_of}
 use Rattle.txc_script.specs.FunctionLines.{counts_in, function_line}
 use Rattle.txc_script.specs.Kinds.{Given, Nothing, Replied, Malformed}
 
--- ---- what is counted
+-- ---- counts
 
 -- a step that a line names, with its reply, as the only one of a pass
 abbrev pub step_by : Op → Reply Shown → Record
 step_by op reply = record { pass = 0; turn = 0; op = op; reply = reply }
 
--- the steps that lines name which are not refused
+-- the steps of the lines that are not refused
 abbrev pub steps_in : Given Op (Reply Shown) → List Record
 steps_in Nothing = []
 steps_in (Replied op reply) = if is_refusal reply then [] else step_by op reply ∷ []
@@ -37,7 +37,7 @@ abbrev pub functions_named : List Record → List ℕ
 functions_named [] = []
 functions_named (step ∷ steps) = before_others (function_of step.op) (functions_named steps)
 
--- ---- what is written
+-- ---- texts
 
 -- the line of what is counted in all
 abbrev pub total_line : ℕ → ℕ → ℕ → List ℕ

@@ -18,12 +18,12 @@ use Rattle.txc_run.specs.Lines.{Spells, node_forms}
 abbrev pub IsFor : Option ℕ → Op → Reply Shown → Type 0
 IsFor function op reply = is_refusal reply ≡ false → function ≡ function_of op
 
--- how replies to steps are taken: what takes them before, the step, its reply, and what takes them after
+-- a relation for the taking of replies: the taker before, the step, its reply, and the taker after
 abbrev pub Taking : Type 0 → Type 1
 Taking T = T → Op → Reply Shown → T → Type 0
 
--- Such a step was made: it has a reply, which was taken and is a refusal or none, and leaves that cache. Or there is no
--- reply, and it is left why: this is wrong, and nothing changed; or a growth was refused.
+-- Such a step was made: its reply was taken, is a refusal or not, and left that cache. Or there is no reply,
+-- for one of two causes: this fault, and nothing changed; or no memory.
 abbrev pub MakesStep : {T F : Type 0} → Taking T → (Op → Type 0) → (CommandFault F → Type 0) → Cache → Cache → T → T
     → Option Bool → Unanswered F → Type 0
 MakesStep takes Is IsFault c next old new (Some refused) why = (op : Op) × Is op × (reply : Reply Shown)

@@ -1,16 +1,16 @@
-//! What the lines of a script are and what they give. Each is a lemma: it has no code.
+//! Laws of the lines of a script and of their replies. Each is a lemma without code.
 ghost use Rattle.txc_run.specs.Laws.{NoQuietLineNamesAStep, NamesOneStep, IsOneThing, AreAnsweredOneWay};
 
-/// A line is one thing at most: it has no reply, or names one step, or is malformed. Reading it shows which
-/// of these it is.
+/// A line is at most one of three things: it has no reply, or it names one step, or it is malformed. Reading it
+/// shows which.
 pub fn a_line_is_one_thing<F>()
     ensures no_quiet_step { NoQuietLineNamesAStep }
     ensures one_step { NamesOneStep }
     ensures one_thing { IsOneThing F }
 {}
 
-/// Where no insertion is refused for memory, lines are answered in one way: the cache that they find and
-/// their bytes alone say what is replied, and the cache that they leave.
+/// If no insertion fails for want of memory, the replies are unique: the cache before a line, and the bytes of
+/// the line, determine the reply and the cache after it.
 pub fn lines_are_answered_one_way<F>()
     ensures { AreAnsweredOneWay F }
 {}

@@ -9,13 +9,14 @@ use std::marker::PhantomData;
 use txc_node::{NodeCore, Op, Reply, Shown};
 use txc_script::{Script, Unanswered};
 
-/// A script of a node whose replies are written. Its lines have no faults of their own, so a run says of which type none is.
+/// A script of a node whose replies are written. Its lines have no faults of their own; `F` is the type that a
+/// run reports for these.
 pub struct Replying<F>(pub PhantomData<F>);
 
 /// A script of a node whose replies are counted, and a report is written after all lines.
 pub struct Counting<F>(pub PhantomData<F>);
 
-/// A node, and what a report says of its replies.
+/// A node, with the report of its replies.
 #[derive(Drop)]
 pub struct Counted {
     pub node: NodeCore,

@@ -1,4 +1,4 @@
-//! Replies as text, written after what is not written out yet.
+//! Replies as text, appended to the text that is not written out yet.
 ghost use Rattle.std.specs.Prelude.{◌≡◌, ℕ, ◌+◌, ◌*◌, ◌<◌, ◌≤◌, [], ◌∷◌, ◌++◌, length, map, OnOk, OnErr, codes, vec_len, vec_capacity};
 ghost use Rattle.std.specs.Fmt.{decimal};
 ghost use Rattle.std.specs.List.{flat_map, join_with_byte};
@@ -15,10 +15,10 @@ use txc_node::{Entry, Hit, Inserted, Reply, Value};
 use txc_stamp::Reach;
 use txc_tags::Key;
 
-/// More bytes than a reply takes beside the digits of a value.
+/// More bytes than a reply needs without the digits of a value.
 const MAX_REPLY: usize = 256;
 
-/// Puts bytes at the end, where there is room for them.
+/// Appends bytes. There is room for them.
 #[inline(always)]
 fn put(text: &mut Vec<u8>, bytes: &[u8])
     requires { vec_len text.old + length bytes.now ≤ vec_capacity text.old }
@@ -32,7 +32,7 @@ fn put(text: &mut Vec<u8>, bytes: &[u8])
     }
 }
 
-/// Puts the digits of a number at the end.
+/// Appends the digits of a number.
 fn put_number(text: &mut Vec<u8>, number: u64)
     requires { vec_len text.old + length (decimal number) ≤ vec_capacity text.old }
     ensures after { text.new.items ≡ text.old.items ++ decimal number }
@@ -46,7 +46,7 @@ fn put_number(text: &mut Vec<u8>, number: u64)
     text.push_reserved(b'0' + (number % 10) as u8)
 }
 
-/// Puts a number of at most 20 digits at the end.
+/// Appends a number of at most 20 digits.
 #[inline(always)]
 #[tactic(auto, using(crate::proofs::Digits::few_digits))]
 fn put_u64(text: &mut Vec<u8>, number: u64)
@@ -58,7 +58,7 @@ fn put_u64(text: &mut Vec<u8>, number: u64)
     put_number(text, number)
 }
 
-/// A hexadecimal digit.
+/// Returns a hexadecimal digit.
 #[inline(always)]
 fn digit(n: u8) -> u8
     requires { n < 16 }
@@ -67,7 +67,7 @@ fn digit(n: u8) -> u8
     if n < 10 { b'0' + n } else { b'a' + (n - 10) }
 }
 
-/// Puts the two digits of a byte at the end.
+/// Appends the two digits of a byte.
 #[inline(always)]
 fn put_byte(text: &mut Vec<u8>, byte: u8)
     requires { vec_len text.old + 2 ≤ vec_capacity text.old }
@@ -79,7 +79,7 @@ fn put_byte(text: &mut Vec<u8>, byte: u8)
     text.push_reserved(digit(byte % 16));
 }
 
-/// Puts the two digits of each byte at the end.
+/// Appends the two digits of each byte.
 fn put_digits(text: &mut Vec<u8>, bytes: &[u8])
     requires { vec_len text.old + 2 * length bytes.now ≤ vec_capacity text.old }
     ensures after { text.new.items ≡ text.old.items ++ flat_map digits_of bytes.now }
@@ -91,7 +91,7 @@ fn put_digits(text: &mut Vec<u8>, bytes: &[u8])
     }
 }
 
-/// Puts a value at the end: a dash for no bytes, or two digits for each.
+/// Appends a value: a dash for no bytes, or two digits for each.
 fn put_value(text: &mut Vec<u8>, value: &Value)
     requires { vec_len text.old + 2 * length value.now + 1 ≤ vec_capacity text.old }
     ensures after { text.new.items ≡ text.old.items ++ hex_text value.now }
@@ -105,7 +105,7 @@ fn put_value(text: &mut Vec<u8>, value: &Value)
     put_digits(text, bytes)
 }
 
-/// Puts a reach at the end: `[0,3) still`, or `closed`.
+/// Appends a reach: `[0,3) still`, or `closed`.
 fn put_reach(text: &mut Vec<u8>, reach: Reach)
     requires { vec_len text.old + 50 ≤ vec_capacity text.old }
     ensures after { text.new.items ≡ text.old.items ++ reach_text reach }
@@ -123,7 +123,7 @@ fn put_reach(text: &mut Vec<u8>, reach: Reach)
     }
 }
 
-/// Puts a word and a number at the end, as a line.
+/// Appends a word and a number as a line.
 fn put_count(text: &mut Vec<u8>, word: &[u8], count: u64)
     requires { vec_len text.old + length word.now + 21 ≤ vec_capacity text.old }
     ensures { text.new.items ≡ text.old.items ++ (word.now ++ (decimal count ++ 10 ∷ [])) }
@@ -133,7 +133,7 @@ fn put_count(text: &mut Vec<u8>, word: &[u8], count: u64)
     text.push_reserved(b'\n');
 }
 
-/// Puts a number of at most 10 digits at the end.
+/// Appends a number of at most 10 digits.
 #[inline(always)]
 fn put_u32(text: &mut Vec<u8>, number: u32)
     requires { vec_len text.old + 20 ≤ vec_capacity text.old }
@@ -144,7 +144,7 @@ fn put_u32(text: &mut Vec<u8>, number: u32)
     put_u64(text, u64::from(number))
 }
 
-/// Puts a comma and a number at the end.
+/// Appends a comma and a number.
 #[inline(always)]
 fn put_other(text: &mut Vec<u8>, number: u32)
     requires { vec_len text.old + 21 ≤ vec_capacity text.old }
@@ -156,7 +156,7 @@ fn put_other(text: &mut Vec<u8>, number: u32)
     put_u32(text, number);
 }
 
-/// Puts numbers at the end, each with a comma before it.
+/// Appends numbers, each with a comma before it.
 fn put_others(text: &mut Vec<u8>, numbers: &[u32])
     requires { vec_len text.old + 21 * length numbers.now ≤ vec_capacity text.old }
     ensures after { text.new.items ≡ text.old.items ++ flat_map (λ n. 44 ∷ decimal n) numbers.now }
@@ -168,7 +168,7 @@ fn put_others(text: &mut Vec<u8>, numbers: &[u32])
     }
 }
 
-/// Puts numbers at the end, with commas between them.
+/// Appends numbers, with commas between them.
 fn put_args(text: &mut Vec<u8>, args: &[u32])
     requires { vec_len text.old + 21 * length args.now ≤ vec_capacity text.old }
     ensures after { text.new.items ≡ text.old.items ++ join_with_byte 44 (map decimal args.now) }
@@ -184,7 +184,7 @@ fn put_args(text: &mut Vec<u8>, args: &[u32])
     }
 }
 
-/// Puts a key at the end: `f3(1,2)`.
+/// Appends a key: `f3(1,2)`.
 fn put_key(text: &mut Vec<u8>, key: &Key)
     requires { vec_len text.old + 107 ≤ vec_capacity text.old }
     ensures after { text.new.items ≡ text.old.items ++ key_text key.now }
@@ -198,7 +198,7 @@ fn put_key(text: &mut Vec<u8>, key: &Key)
     text.push_reserved(b')');
 }
 
-/// Puts the entry at the end that was dropped, if one was.
+/// Appends the entry that was dropped, if one was.
 fn put_evicted(text: &mut Vec<u8>, evicted: &Option<Entry>)
     requires { vec_len text.old + 137 ≤ vec_capacity text.old }
     ensures after { text.new.items ≡ text.old.items ++ evicted_text evicted.now }
@@ -213,7 +213,7 @@ fn put_evicted(text: &mut Vec<u8>, evicted: &Option<Entry>)
     }
 }
 
-/// Adds the line of an insertion whose entry was stored.
+/// Appends the line of an insertion whose entry was stored.
 fn push_stored(text: &mut Vec<u8>, reach: Reach, evicted: &Option<Entry>) -> Result<(), AllocError>
     ensures after { OnOk result (text.new.items
         ≡ text.old.items ++ (inserted_text (Stored reach evicted.now) ++ 10 ∷ [])) }
@@ -227,7 +227,7 @@ fn push_stored(text: &mut Vec<u8>, reach: Reach, evicted: &Option<Entry>) -> Res
     Ok(())
 }
 
-/// Adds the line of a hit.
+/// Appends the line of a hit.
 fn push_hit(text: &mut Vec<u8>, hit: &Hit<'_>) -> Result<(), AllocError>
     ensures after { OnOk result (text.new.items
         ≡ text.old.items ++ (reply_text (replies.Hit (seen hit.now)) ++ 10 ∷ [])) }
@@ -242,7 +242,7 @@ fn push_hit(text: &mut Vec<u8>, hit: &Hit<'_>) -> Result<(), AllocError>
     Ok(())
 }
 
-/// Adds the line of any reply, which takes a block of its own.
+/// Appends the line of any reply, by way of a string of its own.
 #[cold]
 fn push_other(alloc: Global, text: &mut Vec<u8>, reply: &Reply<Hit<'_>>) -> Result<(), AllocError>
     ensures after { OnOk result (text.new.items
@@ -253,7 +253,7 @@ fn push_other(alloc: Global, text: &mut Vec<u8>, reply: &Reply<Hit<'_>>) -> Resu
     text.extend_from_slice(line.as_bytes())
 }
 
-/// Adds the line of a reply.
+/// Appends the line of a reply. Fails, and appends nothing, only if memory cannot be allocated.
 pub fn push_reply(
     alloc: Global,
     text: &mut Vec<u8>,

@@ -1,7 +1,6 @@
-//! Reports: counts of replies, in place of the replies.
-ghost use Rattle.std.specs.Prelude.{◌≡◌, ◌≤◌, ◌++◌, [], ◌∷◌, ℕ, List, All, IfOk, OnOk, IfSome, codes, string_bytes};
-ghost use Rattle.std.specs.Fmt.{decimal};
-ghost use Rattle.txc_node.specs.Steps.{function_of, seen_reply};
+//! Reports: counts of replies, instead of the replies.
+ghost use Rattle.std.specs.Prelude.{◌≡◌, ◌≤◌, ◌++◌, [], ◌∷◌, List, All, IfOk, OnOk, IfSome, string_bytes, None};
+ghost use Rattle.txc_node.specs.Steps.{function_of, seen_reply, is_refusal};
 ghost use Rattle.txc_node.specs.Counts.{counts_of};
 ghost use Rattle.txc_node.specs.declared.op.Op.{Op};
 ghost use Rattle.txc_node.specs.declared.record.Record.{Record};
@@ -9,36 +8,36 @@ ghost use Rattle.txc_tags.specs.declared.key.TheConstants.{LAST_FUNCTION};
 ghost use Rattle.txc_script.specs.FunctionLines.{function_line};
 ghost use Rattle.txc_run.specs.Reports.{IsReportOf, functions_text, step_by, steps_report, total_line, with_name};
 
+use crate::taker::{Taker, out_of_memory};
 use indexmap::IndexSet;
 use std::alloc::{AllocError, Global};
 use txc_node::{Counts, FunctionCounts, Hit, Reply};
-use txc_script::FunctionLine;
+use txc_script::{FunctionLine, Unanswered};
 use txc_tags::LAST_FUNCTION;
 
-/// How many functions there are.
+/// Number of functions.
 const FUNCTIONS: usize = LAST_FUNCTION as usize + 1;
 
-/// What a report says of the replies so far.
+/// A report of the replies so far.
 #[derive(Drop)]
 pub struct Report {
     counts: Counts,
-    /// How many replies were counted.
+    /// The number of counted replies.
     replies: u64,
-    /// The functions that lookups and insertions named which were not refused, in the order of their first
-    /// naming.
+    /// The functions of the lookups and insertions that did not fail, in the order of their first occurrence.
     functions: IndexSet<u8>,
     ghost in_range: { All (λ f. f ≤ LAST_FUNCTION) functions.keys },
     ghost counted: { counts.replies ≡ replies },
 }
 
-/// The line of what is counted in all.
+/// Returns the line of the counts in all.
 fn total_line(alloc: Global, events: u64, closed: u128, swept: u128) -> Result<String, AllocError>
     ensures { IfOk result (λ line. string_bytes line ≡ total_line events closed swept) }
 {
     format!(in alloc; "total events {events} closed {closed} swept {swept}\n")
 }
 
-/// The line of a function.
+/// Returns the line of a function.
 fn line_of(alloc: Global, function: u8, counts: FunctionCounts) -> Result<String, AllocError>
     ensures { IfOk result (λ line. string_bytes line ≡ function_line function counts ++ 10 ∷ []) }
 {
@@ -47,7 +46,7 @@ fn line_of(alloc: Global, function: u8, counts: FunctionCounts) -> Result<String
 }
 
 impl Report {
-    /// No reply was counted. The room for all functions is made now.
+    /// Makes a report of no replies, with room for all functions. Fails only if memory cannot be allocated.
     pub fn new(alloc: Global) -> Result<Report, AllocError>
         ensures { IfOk result (λ r. IsReportOf [] r.functions.keys r.counts) }
     {
@@ -58,7 +57,7 @@ impl Report {
         })
     }
 
-    /// Notes that a function was named.
+    /// Notes that a function occurred.
     fn name(&mut self, function: Option<u8>) -> Result<(), AllocError>
         requires { IfSome function (λ f. f ≤ LAST_FUNCTION) }
         ensures after { OnOk result (self.new.functions.keys ≡ with_name function self.old.functions.keys) }
@@ -73,7 +72,7 @@ impl Report {
         }
     }
 
-    /// Counts a reply to a step of that function, if it is of one. More than 2^64 replies are refused.
+    /// Counts the reply to a step of that function, or of none. Fails after 2^64 - 1 replies.
     pub fn count(&mut self, function: Option<u8>, reply: &Reply<Hit<'_>>) -> Result<(), AllocError>
         requires { IfSome function (λ f. f ≤ LAST_FUNCTION) }
         ensures { OnOk result ((steps : List Record) (op : Op) → function ≡ function_of op
@@ -89,7 +88,7 @@ impl Report {
         self.name(function)
     }
 
-    /// The lines of the functions.
+    /// Returns the lines of the functions.
     fn function_lines(&self, alloc: Global) -> Result<String, AllocError>
         ensures { IfOk result (λ text. string_bytes text
             ≡ functions_text (counts_of self.now.counts.functions) self.now.functions.keys) }
@@ -102,7 +101,7 @@ impl Report {
         Ok(text)
     }
 
-    /// What is written: a line for each function, and a line for all.
+    /// Returns the text of the report: a line for each function, and a line for all.
     pub fn text(&self, alloc: Global) -> Result<String, AllocError>
         ensures { (steps : List Record) → IsReportOf steps self.now.functions.keys self.now.counts
             → IfOk result (λ text. string_bytes text ≡ steps_report steps) }
@@ -116,5 +115,30 @@ impl Report {
         )?;
         text.push_str(total.as_str())?;
         Ok(text)
+    }
+}
+
+impl Taker for Report {
+    ghost use Rattle.std.specs.Prelude.{[]};
+    ghost use Rattle.txc_run.specs.Counting.{Counts};
+
+    ghost takes = { Counts };
+
+    ghost text = { λ _. [] };
+
+    fn take<F: Drop>(
+        &mut self,
+        alloc: Global,
+        function: Option<u8>,
+        reply: &Reply<Hit<'_>>,
+        why: &mut Unanswered<F>,
+    ) -> Option<bool> {
+        if reply.is_refusal() {
+            return Some(true);
+        }
+        match self.count(function, reply) {
+            Ok(()) => Some(false),
+            Err(_) => out_of_memory(why),
+        }
     }
 }

@@ -31,7 +31,7 @@ fn run_replying<F: Drop, R: Read, W: Write>(
     }
 }
 
-/// A new node, and a report of no reply.
+/// Makes a new node, and a report of no replies.
 fn new_counted(alloc: Global, settings: Settings) -> Result<Counted, AllocError>
     ensures node { IfOk result (λ s. s.node ≡ empty_cache settings.capacity settings.recent) }
     ensures report { IfOk result (λ s. HasReport [] s.report) }
@@ -59,10 +59,10 @@ fn run_counting<F: Drop, R: Read, W: Write>(
     }
 }
 
-/// Reads a script, and writes the replies to its lines or a report of them, as the mode says. The status says
-/// what is wrong with a malformed line. A reader is read at most [`crate::MAX_READS`] times, where a read
-/// that was interrupted counts and is made again. One that has not reached its end by then is a read fault.
-/// The writer is flushed at the end, unless no node could be made: then nothing was read.
+/// Reads a script, and writes the replies to its lines or a report of them, by the mode. The status has the
+/// fault of a malformed line. It reads the reader at most [`crate::MAX_READS`] times, where an interrupted read
+/// counts and is repeated; if it has not reached the end by then, that is a read fault. It flushes the writer
+/// at the end, unless memory for the node cannot be allocated: then it has read nothing.
 pub fn run<F: Drop, R: Read, W: Write>(
     alloc: Global,
     mode: Mode,

@@ -1,4 +1,4 @@
-//! Steps of the node, whose replies are taken.
+//! Steps of the node, whose replies a taker gets.
 ghost use Rattle.std.specs.Prelude.{◌≡◌, ◌≤◌, false, IfNone, IfSome};
 ghost use Rattle.txc_node.specs.Hit.{seen};
 ghost use Rattle.txc_node.specs.declared.op.Op.{Op};
@@ -17,7 +17,8 @@ use txc_script::{CommandFault, Excerpt, Unanswered, WordsLeft, all_words, read_r
 use txc_stamp::Stamp;
 use txc_tags::{Key, TagSet};
 
-/// Makes the insertion that the words after its name are, and takes its reply; else it leaves why it did not.
+/// Makes the insertion of the words after its name, and gives its reply to the taker. Otherwise returns `None`,
+/// and sets `why`.
 #[inline(never)]
 fn make_insertion<T: Taker, F: Drop>(
     alloc: Global,
@@ -48,7 +49,8 @@ fn make_insertion<T: Taker, F: Drop>(
     }
 }
 
-/// Takes the reply to a lookup that is a hit. It stands alone, so that a miss makes no room for it.
+/// Gives the reply to a lookup that is a hit to the taker. It is a function of its own, so that a miss makes no
+/// room for it.
 #[inline(never)]
 fn take_hit<T: Taker, F: Drop>(
     alloc: Global,
@@ -67,7 +69,7 @@ fn take_hit<T: Taker, F: Drop>(
     taker.take(alloc, function, &Reply::Hit(hit), why)
 }
 
-/// Makes the lookup that the words after its name are, and takes its reply.
+/// Makes the lookup of the words after its name, and gives its reply to the taker.
 #[inline(never)]
 fn make_lookup<T: Taker, F: Drop>(
     alloc: Global,
@@ -94,7 +96,7 @@ fn make_lookup<T: Taker, F: Drop>(
     }
 }
 
-/// Makes the event that the words after its name are, and takes its reply.
+/// Makes the event of the words after its name, and gives its reply to the taker.
 #[inline(never)]
 fn make_event<T: Taker, F: Drop>(
     alloc: Global,
@@ -122,7 +124,7 @@ fn make_event<T: Taker, F: Drop>(
     }
 }
 
-/// Makes the sweep that the words after its name are, and takes its reply.
+/// Makes the sweep of the words after its name, and gives its reply to the taker.
 #[inline(never)]
 fn make_sweep<T: Taker, F: Drop>(
     alloc: Global,
@@ -142,7 +144,7 @@ fn make_sweep<T: Taker, F: Drop>(
     taker.take(alloc, None, &Reply::Swept(node.sweep(horizon)), why)
 }
 
-/// Leaves that no line has this name.
+/// Sets the fault: no line has this name.
 #[cold]
 #[inline(never)]
 fn leave_unknown<F: Drop>(name: &[u8], why: &mut Unanswered<F>)
@@ -151,8 +153,8 @@ fn leave_unknown<F: Drop>(name: &[u8], why: &mut Unanswered<F>)
     *why = Unanswered::Wrong(CommandFault::Unknown(Excerpt::new(name)));
 }
 
-/// Makes the step that a line names, and takes its reply; else it leaves why it did not. Each kind of step is a
-/// function of its own, so that a line pays for the room of its own words alone.
+/// Makes the step that a line names, and gives its reply to the taker. Otherwise returns `None`, and sets
+/// `why`. Each kind of step is a function of its own, so that a line makes room only for its own words.
 pub fn make_step<T: Taker, F: Drop>(
     alloc: Global,
     node: &mut NodeCore,

@@ -1,4 +1,4 @@
-//! What takes the replies to steps.
+//! Takers of the replies to steps.
 ghost use Rattle.std.specs.Prelude.{◌≡◌, ◌≤◌, ℕ, List, IfSome, IfNone, None};
 ghost use Rattle.txc_node.specs.Steps.{is_refusal, seen_reply};
 ghost use Rattle.txc_node.specs.declared.hit.Shown.{Shown};
@@ -7,7 +7,6 @@ ghost use Rattle.txc_node.specs.declared.reply.Reply.{Reply};
 ghost use Rattle.txc_run.specs.Steps.{IsFor};
 
 use crate::output::push_reply;
-use crate::report::Report;
 use std::alloc::Global;
 use txc_node::{Hit, Reply};
 use txc_script::Unanswered;
@@ -15,14 +14,14 @@ use txc_tags::LAST_FUNCTION;
 
 /// Takes the replies to steps: a text, to which they are written, or a report, which counts them.
 pub trait Taker {
-    // The reply to a step was taken.
+    // The relation of the taker after a reply to the one before.
     ghost takes: { Self → Op → Reply Shown → Self → Type 0 };
 
-    // What was written so far.
+    // The text written so far.
     ghost text: { Self → List ℕ };
 
-    /// Takes the reply to a step of that function, if it is of one. Returns whether it is a refusal; else it leaves that a
-    /// growth was refused.
+    /// Takes the reply to a step of that function, or of none. Returns whether it is a refusal. If memory
+    /// cannot be allocated, returns `None`, and sets `why`.
     fn take<F: Drop>(
         &mut self,
         alloc: Global,
@@ -38,10 +37,10 @@ pub trait Taker {
         ensures unchanged { IfNone result (text self.new ≡ text self.old) };
 }
 
-/// Leaves that a growth was refused.
+/// Sets `why` to a failed allocation.
 #[cold]
 #[inline(never)]
-fn out_of_memory<F: Drop>(why: &mut Unanswered<F>) -> Option<bool>
+pub(crate) fn out_of_memory<F: Drop>(why: &mut Unanswered<F>) -> Option<bool>
     ensures none { result ≡ None }
     ensures memory { why.new ≡ Unanswered.Memory }
 {
@@ -67,31 +66,6 @@ impl Taker for Vec<u8> {
     ) -> Option<bool> {
         match push_reply(alloc, self, reply) {
             Ok(()) => Some(reply.is_refusal()),
-            Err(_) => out_of_memory(why),
-        }
-    }
-}
-
-impl Taker for Report {
-    ghost use Rattle.std.specs.Prelude.{[]};
-    ghost use Rattle.txc_run.specs.Counting.{Counts};
-
-    ghost takes = { Counts };
-
-    ghost text = { λ _. [] };
-
-    fn take<F: Drop>(
-        &mut self,
-        alloc: Global,
-        function: Option<u8>,
-        reply: &Reply<Hit<'_>>,
-        why: &mut Unanswered<F>,
-    ) -> Option<bool> {
-        if reply.is_refusal() {
-            return Some(true);
-        }
-        match self.count(function, reply) {
-            Ok(()) => Some(false),
             Err(_) => out_of_memory(why),
         }
     }

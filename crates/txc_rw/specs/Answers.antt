@@ -1,4 +1,4 @@
--- What a read-write transaction was answered, and what it rests on.
+-- The results of a read-write transaction, and the queries on which they depend.
 use Rattle.std.specs.Prelude.{◌≡◌, List, [], ◌∷◌, Some, All, Contains}
 use Rattle.txc_rows.specs.declared.query.Query.{Query}
 use Rattle.txc_rows.specs.declared.query.Change.{Change}
@@ -9,7 +9,7 @@ use Rattle.txc_app.specs.Eval.{Next, eval}
 use Rattle.txc_rw.specs.declared.given.Given.{Given}
 use Rattle.txc_rw.specs.declared.given.Given.TheVariants.{Value, Rows}
 
--- in the state, the answer is what its call gives without a cache, or what its query gives
+-- in the state, the result is the uncached value of its call, or the answer of its query
 abbrev pub IsRightIn : Next → State → Given → Type 0
 IsRightIn next s (Value key value) = eval next key s ≡ Some value
 IsRightIn next s (Rows query rows) = rows ≡ answer query s
@@ -17,7 +17,7 @@ IsRightIn next s (Rows query rows) = rows ≡ answer query s
 abbrev pub AreRightIn : Next → State → List Given → Type 0
 AreRightIn next s answers = All (IsRightIn next s) answers
 
--- each of the queries gives the same in both states
+-- each of the queries has the same answer in both states
 abbrev pub AgreeOn : List Query → State → State → Type 0
 AgreeOn queries s t = (q : Query) → Contains queries q → answer q t ≡ answer q s
 

@@ -1,5 +1,5 @@
--- A read-write transaction whose caller runs the functions of its calls, so that no registry has objects for them. Each
--- definition is said of any objects: those that a registry would have.
+-- A read-write transaction whose caller runs the functions of its calls, so that no registry has objects for
+-- them. Each definition is about any objects: those that a registry would have.
 use Rattle.std.specs.Prelude.{◌≡◌, ◌⊎◌, ◌∷◌, [], ◌++◌, List, Option, Some, None, Result, Ok, Err}
 use Rattle.txc_tags.specs.Keys.{Call}
 use Rattle.txc_rows.specs.declared.query.Query.{Query}
@@ -24,11 +24,12 @@ use Rattle.txc_rw.specs.declared.given.Given.{Given}
 use Rattle.txc_rw.specs.Core.{QueryTurn, RwValue, answers_after, only_one, IsRwTurn, ReadingFits}
 use Rattle.txc_rw.specs.Transitions.{RwStandingTransition}
 
--- what a step by hand gives: a turn, or none if a function is to begin or to continue first
+-- the result of a step by hand: a turn, or none if a function must begin or continue first
 abbrev pub RwHandTurn : Type 0
 RwHandTurn = Option QueryTurn
 
--- as of a core over a registry; but a call that needs a function may be open, and then the database is asked nothing
+-- as of a core over a registry; but a call that needs a function may be open, and then the database is asked
+-- nothing
 pub record IsRwByHand (next : Next) (objects : Objects) (c : RwValue) : Type 0 where
   pub call : IsCalling next objects c.call
   pub at_one : InCall 1 c.call
@@ -39,7 +40,7 @@ abbrev pub IsRwHandTurn : RwValue → RwHandTurn → Type 0
 IsRwHandTurn c None = (c.reading ≡ None) × NeedsFunction c.call.need
 IsRwHandTurn c (Some turn) = IsRwTurn c turn
 
--- the call goes on
+-- the call continues
 abbrev pub IsRwUnended : RwHandTurn → Type 0
 IsRwUnended None = Unit {0}
 IsRwUnended (Some turn) = IsAsk turn
@@ -58,7 +59,7 @@ answers_by_hand answers k (Some turn) = answers_after answers k turn
 
 -- ---- the effect of a step
 
--- what the call needs without a node: a lookup is a miss, and an insertion is passed over
+-- the need of the call without a node: a lookup is a miss, and an insertion is skipped
 abbrev pub without_node : List Frame → Option Need → Option Need
 without_node frames None = None
 without_node frames (Some (needs.Lookup k)) = Some (need_after frames (needs.Lookup k) replies.Miss)
@@ -68,8 +69,8 @@ without_node frames (Some (needs.Value o)) = Some (needs.Value o)
 without_node frames (Some (needs.Begin k)) = Some (needs.Begin k)
 without_node frames (Some (needs.Resume x)) = Some (needs.Resume x)
 
--- What the core does once its call stands so after a step of the machine, or has failed. If the call needs a function
--- without a node, there is no turn, and it stands so; else the turn is one as over a registry.
+-- The core's step after its call got into this state, or failed. If the call needs a function without a node,
+-- there is no turn, and it stays in this state; otherwise the turn is one as over a registry.
 abbrev pub RwHandTransition : CallTurn → RwValue → RwHandTurn → Type 0
 RwHandTransition (Ok standing) new None =
     (new.call.frames ≡ standing.frames) × (new.call.asked ≡ standing.asked)
@@ -85,8 +86,8 @@ RwAskTransition limits old need ask new turn = (objects : Objects)
     → (stands : CallTurn) × AfterRan limits old.call.frames old.call.asked objects need ask stands
     × RwHandTransition stands new turn
 
--- What comes of an ask of the function that the call needs, within these limits: a turn or none. All stays but the
--- answers, the call, and the query that the database is asked.
+-- The effect of a step of the function that the call needs, within these limits: a turn or none. Everything
+-- stays except the results, the call, and the pending query.
 pub record HasRwAsked (limits : Limits) (old : RwValue) (ask : FunctionAsk) (new : RwValue) (turn : RwHandTurn)
     : Type 0 where
   pub turn_fits : IsRwHandTurn new turn
@@ -95,12 +96,13 @@ pub record HasRwAsked (limits : Limits) (old : RwValue) (ask : FunctionAsk) (new
   pub goes_on : IsRwUnended turn → new.call.top ≡ old.call.top
   pub same : new ≡ record old { answers = new.answers; call = new.call; reading = new.reading }
 
--- the call is given up
+-- the call is cancelled
 abbrev pub given_up_call : Calling → Calling
 given_up_call c = record c { frames = []; need = None }
 
--- What comes of the database's answer to the query of the call. It counts as read, and the innermost function is to
--- continue with its rows, at the one stamp by which the call knows the state; or the call ends with the error.
+-- The effect of the database's answer to the query of the call. It counts as read, and the innermost function
+-- must continue with its rows, at the stamp 1, by which the call knows the state; or the call ends with the
+-- error.
 abbrev pub RwHearTransition : RwValue → Query → Result Found DbError → RwValue → RwHandTurn → Type 0
 RwHearTransition old q (Ok found) new turn = (turn ≡ None) × (new ≡ record old {
   queried = old.queried ++ q ∷ [];

@@ -1,4 +1,4 @@
--- A read-write transaction: what it waits for, and what is true of it.
+-- A read-write transaction: its pending query, and its invariant.
 use Rattle.std.specs.Prelude.{◌≡◌, ◌⊎◌, ℕ, ◌<◌, ◌≤◌, List, [], ◌∷◌, ◌++◌, length, map, Vec, vec_len, vec_capacity, Option, Some, None, Result, Ok, Err, false}
 use Rattle.std.specs.declared.alloc.Global.{Global}
 use Rattle.txc_stamp.specs.Interval.{Interval}
@@ -28,8 +28,8 @@ use Rattle.txc_rw.specs.declared.reading.Reading.{Reading}
 use Rattle.txc_rw.specs.declared.rw_core.TheConstants.{MAX_CHANGES}
 use Rattle.txc_rw.specs.Answers.{AgreeOn, AreRightIn, committed, state_of}
 
--- What callers see of a core: its base; every query that the database answered it; what it was answered; its
--- changes; its call; and the query that the database is asked, if one is.
+-- The value of a core in contracts: its base; every query that the database answered; its results; its changes;
+-- its call; and the pending query, if there is one.
 pub record RwValue : Type 0 where
   pub base : ℕ
   pub queried : List Query
@@ -46,7 +46,7 @@ tags_of queries = set_of (map query_tag queries)
 abbrev pub tags_read : RwValue → List Tag
 tags_read c = tags_of c.queried
 
--- ---- what is kept
+-- ---- the state of a core
 
 abbrev pub query_of_reading : Option Reading → Option Query
 query_of_reading None = None
@@ -57,16 +57,16 @@ abbrev pub IsReady : Option Reading → List Tag → ℕ → ℕ → Type 0
 IsReady None tags count room = Unit {0}
 IsReady (Some r) tags count room = (r.tags ≡ with_tag (query_tag r.query) tags) × (count < room)
 
--- the tags are those of the queries that were answered, no more changes are kept than may be, and the next
--- query is ready
+-- the tags are those of the answered queries, there are no more changes than allowed, and the next query is
+-- ready
 pub record IsRwState (tags : List Tag) (queried : Vec Query Global) (changes : List Change) (reading : Option Reading) : Type 0 where
   pub exact : tags ≡ tags_of queried.items
   pub few : length changes ≤ MAX_CHANGES
   pub ready : IsReady reading tags (vec_len queried) (vec_capacity queried)
 
--- ---- what is true of a core
+-- ---- the invariant of a core
 
--- nothing was asked, answered or changed
+-- nothing was requested, answered or changed
 pub record IsBegun (base : ℕ) (c : RwValue) : Type 0 where
   pub at_base : c.base ≡ base
   pub queried : c.queried ≡ []
@@ -80,26 +80,25 @@ pub record IsBegun (base : ℕ) (c : RwValue) : Type 0 where
 abbrev pub IsRwIdle : RwValue → Type 0
 IsRwIdle c = (c.call.need ≡ None) × (c.reading ≡ None)
 
--- the query is what the call needs, or, where no call is open, the transaction's own; without one no call is
--- open
+-- the query is the call's need, or, if no call is open, the transaction's own; without a query no call is open
 abbrev pub ReadingFits : Option Query → Option Need → Type 0
 ReadingFits None need = need ≡ None
 ReadingFits (Some q) None = Unit {0}
 ReadingFits (Some q) (Some need) = need ≡ needs.Query q
 
--- the stamp 1 alone
+-- only the stamp 1
 abbrev pub only_one : Interval
 only_one = record { lo = 1; known = 1; still = false }
 
--- in any history: its call waits for what it needs; what that was given holds at the stamp 1, by which the
--- call knows the one state that the transaction reads; and the database is asked what is needed
+-- in any history: its call waits for its need; the call's answers hold at the stamp 1, by which the call knows
+-- the single state that the transaction reads; and the pending query is the need
 pub record IsRw (next : Next) (objects : Objects) (c : RwValue) : Type 0 where
   pub call : IsCalling next objects c.call
   pub at_one : InCall 1 c.call
   pub reading : ReadingFits c.reading c.call.need
 
--- In a history, which has the base. Each answer is right in the state of the base, and in every other in which
--- the queries that were answered give what they give there. So is what the open call was given.
+-- In a history that has the base: each result is correct in the state of the base, and in every other state in
+-- which the answered queries have the same answers. So are the answers of the open call.
 pub record RwHolds (next : Next) (L : History) (objects : Objects) (c : RwValue) : Type 0 where
   pub within : c.base ≤ length L
   pub answers : (changes : List Change) → AgreeOn c.queried (state_at L c.base) (state_of changes)
@@ -119,7 +118,7 @@ needs_no_node (Some (needs.Value outcome)) = Unit {0}
 needs_no_node (Some (needs.Begin key)) = Unit {0}
 needs_no_node (Some (needs.Resume answer)) = Unit {0}
 
--- the call needs this query, or, where it is none, it has its value
+-- the call needs this query, or, without a query, it has its value
 abbrev pub NeedsOnly : Option Query → Option Need → Type 0
 NeedsOnly (Some q) need = need ≡ Some (needs.Query q)
 NeedsOnly None need = (o : Outcome) × (need ≡ Some (needs.Value o))
@@ -140,7 +139,7 @@ HasCounted old new = IsDone new.need ⊎ ((¬ (IsDone old.need)) × (old.asked �
 
 -- ---- turns
 
--- of a call that asks queries
+-- of a call that makes queries
 abbrev pub QueryTurn : Type 0
 QueryTurn = Turn Query (List ℕ)
 
@@ -156,7 +155,7 @@ answers_after answers k turn = answers
 
 -- ---- replies
 
--- what was found for the query is its rows at the base, with its tag
+-- the answer to the query is its rows at the base, with its tag
 pub record IsFoundAt (L : History) (base : ℕ) (q : Query) (found : Found) : Type 0 where
   pub rows : found.rows.items ≡ answer q (state_at L base)
   pub tag : found.tags ≡ query_tag q ∷ []
@@ -166,14 +165,14 @@ abbrev pub IsRightReply : History → RwValue → Result Found DbError → Type 
 IsRightReply L c (Ok found) = (q : Query) → c.reading ≡ Some q → IsFoundAt L c.base q found
 IsRightReply L c (Err error) = Unit {0}
 
--- a query that was answered is one more
+-- an answered query is one more
 abbrev pub queried_after : List Query → Option Query → Result Found DbError → List Query
 queried_after queried (Some q) (Ok found) = queried ++ q ∷ []
 queried_after queried reading reply = queried
 
--- ---- refusals
+-- ---- errors
 
--- of a change: there are as many as may be; else out of memory
+-- of a change: there are as many as allowed; otherwise no memory
 abbrev pub IsWriteRefused : ℕ → TxnError → Type 0
 IsWriteRefused count BufferFull = MAX_CHANGES ≤ count
 IsWriteRefused count Memory = count < MAX_CHANGES

@@ -1,4 +1,4 @@
--- What is said of read-write transactions alone.
+-- Laws of read-write transactions.
 use Rattle.std.specs.Prelude.{◌≡◌, ◌⊎◌, ℕ, ◌≤◌, true, List, length, Contains}
 use mathlib.Core.List.{IsPrefix}
 use Rattle.txc_rows.specs.declared.query.Query.{Query}
@@ -16,7 +16,7 @@ abbrev pub HoldsAtFirst : Type 0
 HoldsAtFirst = (next : Next) (L : History) (objects : Objects) (base : ℕ) (c : RwValue)
     → IsBegun base c → base ≤ length L → RwHolds next L objects c
 
--- what holds in a history holds in a longer one
+-- a property that holds in a history holds in each longer one
 abbrev pub HoldsInLonger : Type 0
 HoldsInLonger = (next : Next) (L M : History) (objects : Objects) (c : RwValue)
     → IsPrefix L M → RwHolds next L objects c → RwHolds next M objects c
@@ -26,25 +26,25 @@ abbrev pub AnswersAreRight : Type 0
 AnswersAreRight = (next : Next) (L : History) (objects : Objects) (c : RwValue)
     → RwHolds next L objects c → AreRightIn next (state_at L c.base) c.answers
 
--- the tags of the queries that were answered cover each of these
+-- the tags of the answered queries cover each of these
 abbrev pub TagsCoverQueries : Type 0
 TagsCoverQueries = (queries : List Query) (q : Query) → Contains queries q
     → covers_query (tags_of queries) q ≡ true
 
--- where the database committed the changes of a transaction with the tags of what it read, and nothing
--- changed, each answer is right at the newest stamp
+-- if the database committed the changes of a transaction with the tags of its reads, and nothing changed, each
+-- result is correct at the newest stamp
 abbrev pub QuietCommitsAreRight : Type 0
 QuietCommitsAreRight = (next : Next) (L : History) (objects : Objects) (c : RwValue) (stamp : ℕ)
     → RwHolds next L objects c → IsQuietIn L c.base (tags_read c) c.changes stamp
     → HasChangedNothing next L c.changes c.answers stamp
 
--- and where there is an event, before it
+-- and if there is an event, before it
 abbrev pub EventCommitsAreRight : Type 0
 EventCommitsAreRight = (next : Next) (L : History) (objects : Objects) (c : RwValue) (stamp : ℕ)
     → RwHolds next L objects c → IsEventIn L c.base (tags_read c) c.changes stamp
     → HasChanged next L c.changes c.answers stamp
 
--- either way, each answer is right where the changes were made
+-- either way, each result is correct at the state to which the changes were made
 abbrev pub CommitsAreRight : Type 0
 CommitsAreRight = (next : Next) (L : History) (objects : Objects) (c : RwValue) (stamp : ℕ)
     → RwHolds next L objects c

@@ -1,4 +1,4 @@
--- What a commit that succeeded did, and at which stamp all answers are right.
+-- The effect of a successful commit, and the stamp at which all results are correct.
 use Rattle.std.specs.Prelude.{◌≡◌, ◌≢◌, ◌⊎◌, ℕ, ◌+◌, List, [], length, Some}
 use Rattle.txc_rows.specs.declared.query.Change.{Change}
 use Rattle.txc_rows.specs.Net.{net_changes}

@@ -1,4 +1,4 @@
--- How a call of a transaction goes: by what it is answered, and what comes of it.
+-- The run of a call of a transaction, by its replies and their effects.
 use Rattle.std.specs.Prelude.{◌≡◌, ◌⊎◌, ℕ, List, [], ◌∷◌, ◌++◌, Vec, Some, None, Result, Ok, Err}
 use Rattle.std.specs.List.{flat_map}
 use Rattle.std.specs.declared.alloc.Global.{Global}
@@ -30,7 +30,7 @@ use Rattle.txc_rw.specs.Txn.{RwTxnValue}
 
 -- ---- steps
 
--- what a call needed, and the reply
+-- a need of a call, and the reply
 pub record Step : Type 0 where
   pub need : Need
   pub reply : Reply
@@ -43,13 +43,13 @@ IsUncached s (needs.Query q) (replies.Found found) = found.rows.items ≡ answer
 IsUncached s (needs.Insert e) reply = reply ≡ replies.Inserted
 IsUncached s need reply = ⊥
 
--- the call stands so, and such a reply to what it needs leads it on
+-- the call is in this state, and such a reply to its need leads it to the next
 abbrev pub IsStepAt : Next → State → CallTurn → Step → CallTurn → Type 0
 IsStepAt next s (Ok from) step after = (from.need ≡ Some step.need) × IsUncached s step.need step.reply
     × AfterReply next from.frames from.asked from.objects step.need step.reply after
 IsStepAt next s (Err error) step after = ⊥
 
--- such replies lead it on, one after the other, to where it stands at last, or is refused
+-- such replies lead it, one after the other, to its last state, or to its error
 abbrev pub IsLedAt : Next → State → CallTurn → List Step → CallTurn → Type 0
 IsLedAt next s from [] end = end ≡ from
 IsLedAt next s from (step ∷ steps) end =
@@ -64,26 +64,26 @@ query_in (needs.Value o) = []
 query_in (needs.Begin k) = []
 query_in (needs.Resume x) = []
 
--- the queries that were answered
+-- the answered queries
 abbrev pub queries_in : List Step → List Query
 queries_in steps = flat_map (λ step. query_in step.need) steps
 
--- such replies lead it from the one to the other, and these queries were answered on the way
+-- such replies lead it from the one state to the other, and these queries were answered on the way
 pub record IsLedTo (next : Next) (s : State) (from : CallTurn) (queries : List Query) (end : CallTurn)
     : Type 0 where
   pub steps : List Step
   pub led : IsLedAt next s from steps end
   pub answered : queries_in steps ≡ queries
 
--- how the call stands, beside what the objects do
+-- the call's state, with the state of the objects
 abbrev pub standing_of : Calling → Objects → CallTurn
 standing_of call objects =
     Ok (record { frames = call.frames; asked = call.asked; need = call.need; objects = objects })
 
 -- ---- the core
 
--- What the core does once its call stands so. It asks what the call needs, and the call stands so still; or
--- the call's value is that of the turn; or it is refused, as the call is, or as out of memory.
+-- The core's step once its call is in this state. It makes the query that the call needs, and the call stays in
+-- this state; or the call's value is that of the turn; or it fails, as the call does, or for memory.
 abbrev pub RwStandingTransition : CallTurn → RwValue → Objects → QueryTurn → Type 0
 RwStandingTransition (Ok standing) new objects (Ask query) = standing_of new.call objects ≡ Ok standing
 RwStandingTransition (Ok standing) new objects (Ended (Ok value)) = (o : Outcome)
@@ -91,13 +91,13 @@ RwStandingTransition (Ok standing) new objects (Ended (Ok value)) = (o : Outcome
 RwStandingTransition (Ok standing) new objects (Ended (Err error)) = error ≡ Memory
 RwStandingTransition (Err error) new objects turn = turn ≡ Ended (Err (refused_call error))
 
--- where these queries are answered on the way, the call stands so that the core does this
+-- if these queries are answered on the way, the call gets into a state in which the core does this
 abbrev pub RwCallTransition : Next → State → CallTurn → List Query → RwValue → Objects → QueryTurn → Type 0
 RwCallTransition next s from queries new objects turn =
     (stands : CallTurn) × IsLedTo next s from queries stands × RwStandingTransition stands new objects turn
 
--- What comes of the database's answer to the transaction's own query. It counts as read, and its rows are one
--- answer more; or it counts as read, and is refused as out of memory; or it is refused as the database refuses it.
+-- The effect of the database's answer to the transaction's own query. It counts as read, and its rows are one
+-- more result; or it counts as read, and fails for memory; or it fails as the database does.
 abbrev pub RowsTransition : RwValue → Query → Result Found DbError → RwValue → Result (Vec RowValue Global) TxnError
     → Type 0
 RowsTransition old q (Ok found) new (Ok rows) = (rows.items ≡ found.rows.items) × (new ≡ record old {
@@ -112,13 +112,13 @@ RowsTransition old q (Err cause) new result = (result ≡ Err (refused_request c
 
 -- ---- the transaction
 
--- some database of the row refuses the query at the base so
+-- some database of the history fails so at the query at the base
 abbrev pub IsQueryRefusedAt : Name → ℕ → Query → TxnError → Type 0
 IsQueryRefusedAt row base q error = (cause : DbError)
     × MayRefuse row (λ d. IsQueryRefused d q base) cause × (error ≡ refused_request cause)
 
--- how a call ends that stands so: with its value; refused as the call is; or, where it needs a query, as the
--- database refuses that; or out of memory
+-- the end of a call in this state: with its value; with the call's error; or, if it needs a query, with the
+-- database's error; or with no memory
 abbrev pub EndsCall : Name → ℕ → CallTurn → Objects → Result (List ℕ) TxnError → Type 0
 EndsCall row base (Ok standing) objects (Ok value) = (o : Outcome) × (standing.need ≡ Some (needs.Value o))
     × (value ≡ o.value) × (objects ≡ standing.objects)
@@ -126,8 +126,8 @@ EndsCall row base (Ok standing) objects (Err error) = (error ≡ Memory)
     ⊎ ((q : Query) × (standing.need ≡ Some (needs.Query q)) × IsQueryRefusedAt row base q error)
 EndsCall row base (Err cause) objects result = result ≡ Err (refused_call cause)
 
--- a call in a state: replies of no cache led it on to where it stands; the queries that were answered on the
--- way, and no other, were answered the transaction; and it ended so
+-- a call in a state: replies of no cache led it to its last state; exactly the queries answered on the way
+-- count as read; and it ended so
 pub record IsUncachedRun (next : Next) (row : Name) (s : State) (from : CallTurn) (old new : RwValue)
     (objects : Objects) (result : Result (List ℕ) TxnError) : Type 0 where
   pub queries : List Query
@@ -141,11 +141,11 @@ abbrev pub HasRunAtBase : Next → Name → RwTxnValue → Call → RwTxnValue �
 HasRunAtBase next row old k new result = IsUncachedRun next row (state_at old.history old.core.base)
     (standing_of (started k) old.objects) old.core new.core new.objects result
 
--- of a query of its own: out of memory, or as the database refuses it
+-- of a query of its own: no memory, or as the database fails
 abbrev pub IsQueryRefusal : Name → ℕ → Query → TxnError → Type 0
 IsQueryRefusal row base q error = (error ≡ Memory) ⊎ IsQueryRefusedAt row base q error
 
--- what a query that was refused leaves: all as it was, but that out of memory it may have been answered
+-- the transaction after a failed query: as before, except that it may have been answered if memory was missing
 abbrev pub IsQueryLeft : RwValue → Query → RwValue → TxnError → Type 0
 IsQueryLeft old q new error = (new ≡ old)
     ⊎ ((error ≡ Memory) × (new ≡ record old { queried = old.queried ++ q ∷ [] }))

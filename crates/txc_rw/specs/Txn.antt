@@ -5,8 +5,8 @@ use Rattle.txc_app.specs.Eval.{Next}
 use Rattle.txc_registry.specs.Objects.{Objects}
 use Rattle.txc_rw.specs.Core.{RwValue, RwHolds}
 
--- What callers see of a transaction: its core; the history that it has seen, which has its base; and what the
--- objects of its functions do.
+-- The value of a transaction in contracts: its core; the history that it has seen, which has its base; and the
+-- state of the objects of its functions.
 pub record RwTxnValue : Type 0 where
   pub core : RwValue
   pub history : History

@@ -1,4 +1,4 @@
-//! Calls and queries of a transaction, led to their end at the locked database.
+//! Calls and queries of a transaction, run to their end at the locked database.
 ghost use Rattle.std.specs.Prelude.{◌≡◌, ◌≤◌, ◌++◌, ◌∷◌, [], length, IfErr, IfOk, IsNone, IsSome, None, Err, OnErr};
 ghost use Rattle.txc_db.specs.History.{state_at};
 ghost use Rattle.txc_app.specs.Eval.{Next};
@@ -21,7 +21,8 @@ use txc_registry::{Cacheable, Registry};
 use txc_rows::{Query, Row};
 use txc_tags::Key;
 
-// Makes a call of the transaction: each query that it asks is asked at the database, until it has its value.
+// Makes a call of the transaction: it makes each query that the call needs at the database, until the call has
+// its value.
 pub(crate) fn call_at<J: Naming, A: App, C: Cacheable>(
     rt: &impl Wait,
     alloc: Global,

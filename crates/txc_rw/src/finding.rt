@@ -1,4 +1,4 @@
-//! Queries of a transaction, asked at the locked database.
+//! Queries of a transaction at the locked database.
 ghost use Rattle.std.specs.Prelude.{◌≡◌, ◌≤◌, length, IfErr, IfOk};
 ghost use Rattle.txc_db.specs.Calls.{IsQueryRefused};
 ghost use Rattle.txc_db.specs.Shared.{MayRefuse};
@@ -11,7 +11,7 @@ use txc_rows::Query;
 use txc_stamp::Stamp;
 use txc_validity::Found;
 
-// What the database finds for the query at a stamp that was seen.
+// Returns the database's answer to the query at a stamp that was seen.
 #[tactic(auto, using(txc_db::proofs::Histories::states_stay))]
 pub(crate) fn find<J: Naming>(
     rt: &impl Wait,

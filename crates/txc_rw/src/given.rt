@@ -3,7 +3,7 @@ use txc_node::Value;
 use txc_rows::Query;
 use txc_tags::Key;
 
-/// What a read-write transaction was answered.
+/// A result that a read-write transaction has read.
 #[derive(Debug, Drop)]
 pub enum Given {
     /// The value of a call.

@@ -1,19 +1,19 @@
-//! What follows from the definitions. Each is a lemma: it has no code.
+//! Lemmas about the definitions. They have no code.
 ghost use Rattle.txc_rw.specs.Laws.{AnswersAreRight, CommitsAreRight, EventCommitsAreRight, HoldsAtFirst, HoldsInLonger, QuietCommitsAreRight, TagsCoverQueries};
 
-/// What is true of a transaction that has just begun, and stays true while the history grows.
+/// A transaction that has just begun is correct, and it stays correct while the history grows.
 pub fn transactions_stay_right()
     ensures first { HoldsAtFirst }
     ensures longer { HoldsInLonger }
 {}
 
-/// The tags that a commit is checked with cover each query that was answered.
+/// The tags against which a commit is checked cover each answered query.
 pub fn tags_cover_queries()
     ensures { TagsCoverQueries }
 {}
 
-/// Every answer is right at the base, and, once the transaction is committed, at the stamp before its event,
-/// or, where it has none, at the newest stamp.
+/// Every result is correct at the base. Once the transaction is committed, it is also correct at the stamp
+/// before its event, or, if it has no event, at the newest stamp.
 pub fn answers_are_right()
     ensures base { AnswersAreRight }
     ensures quiet { QuietCommitsAreRight }

@@ -1,17 +1,14 @@
 //! Read-write transactions, which use no cache.
 //!
-//! A transaction reads at its base, the newest stamp when it began, and keeps its changes until it commits.
-//! It is committed where no event after the base has changed what it read.
+//! A transaction reads at its base, the newest stamp when it began, and buffers its changes until it commits.
+//! It commits if no event after the base has changed what it read.
 #![tactic(auto)]
 
-mod asking;
-mod by_hand;
 mod calling;
 mod finding;
 mod given;
 pub mod laws;
 mod reading;
-mod replies;
 mod rw_core;
 mod rw_txn;
 mod uncached;

@@ -1,7 +1,7 @@
 use txc_rows::Query;
 use txc_tags::TagSet;
 
-/// A query that the database is asked, and the tags of all that was read, once it is answered.
+/// A query that was requested, and the tags of everything read, including this query.
 #[derive(Drop)]
 pub struct Reading {
     pub(crate) query: Query,

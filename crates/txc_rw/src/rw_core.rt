@@ -1,6 +1,10 @@
 ghost use Rattle.txc_call.specs.declared.frames.TheConstants.{MAX_CALL_ASKS};
 ghost use Rattle.std.specs.Prelude.{◌≡◌, ◌<◌, ◌≤◌, ◌++◌, ◌∷◌, [], length, IfErr, IsOk, None, OnErr, OnOk};
 
+mod asking;
+mod by_hand;
+mod replies;
+
 use crate::given::Given;
 use crate::reading::Reading;
 use std::alloc::Global;
@@ -16,20 +20,20 @@ use txc_tags::TagSet;
 /// The most changes of a transaction.
 pub const MAX_CHANGES: usize = 256;
 
-/// A read-write transaction that asks for one query at a time, and goes on with what was found.
+/// A read-write transaction that makes one query at a time, and continues with its answer.
 ///
-/// It has no lock and no thread, and it uses no node. It begins with a stamp that the database holds for it.
-/// For a commit it lends its base, its tags and its changes, so that a refused commit leaves it as it was. The
-/// registry of its functions is lent to each call, always the same one.
+/// It has no lock and no thread, and it uses no node. It begins with a stamp that the database holds for it. It
+/// lends its base, its tags and its changes to a commit, so a failed commit leaves it as it was. Each call is
+/// lent the registry of its functions, always the same one.
 #[derive(Drop)]
 pub struct RwCore {
-    pub(crate) base: Stamp,
-    pub(crate) tags: TagSet,
-    pub(crate) queried: Vec<Query>,
-    pub(crate) answers: Vec<Given>,
-    pub(crate) changes: Vec<Change>,
-    pub(crate) machine: CallMachine,
-    pub(crate) reading: Option<Reading>,
+    base: Stamp,
+    tags: TagSet,
+    queried: Vec<Query>,
+    answers: Vec<Given>,
+    changes: Vec<Change>,
+    machine: CallMachine,
+    reading: Option<Reading>,
 }
 
 impl Model for RwCore {
@@ -53,7 +57,7 @@ impl RwCore {
     ghost use Rattle.txc_registry.specs.Objects.{numbers_of, AllIdle};
     ghost use Rattle.txc_rw.specs.Core.{tags_read, IsBegun, IsRw, IsRwIdle, IsWriteRefused};
 
-    /// A transaction whose base is the stamp that is held for it.
+    /// Makes a transaction whose base is the stamp that is held for it.
     pub fn begin(alloc: Global, base: Stamp) -> RwCore
         ensures { IsBegun base result }
     {
@@ -68,21 +72,21 @@ impl RwCore {
         }
     }
 
-    /// The stamp at which it reads.
+    /// Returns the stamp at which it reads.
     pub fn base(&self) -> Stamp
         ensures { result ≡ self.now.base }
     {
         self.base
     }
 
-    /// The tags of every query that was answered.
+    /// Returns the tags of every answered query.
     pub fn tags(&self) -> &TagSet
         ensures { result.now ≡ tags_read self.now }
     {
         &self.tags
     }
 
-    /// Its changes, in order.
+    /// Returns its changes, in order.
     pub fn changes(&self) -> &[Change]
         ensures answer { result.now ≡ self.now.changes }
         ensures few { length self.now.changes ≤ MAX_CHANGES }
@@ -90,21 +94,23 @@ impl RwCore {
         &self.changes
     }
 
-    /// What it was answered, in order.
+    /// Returns the results that it has read, in order.
     pub fn answers(&self) -> &[Given]
         ensures { result.now ≡ self.now.answers }
     {
         &self.answers
     }
 
-    /// What holds of every core: its call asked no more than it may. It does nothing when it runs.
+    /// In every core the call has made no more steps than it may. This is a lemma: it does nothing when it
+    /// runs.
     pub fn is_within_budget(&self)
         ensures { self.now.call.asked ≤ MAX_CALL_ASKS }
     {
         self.machine.is_within_budget();
     }
 
-    /// One change more. It is refused where there are [`MAX_CHANGES`] already, and dropped then.
+    /// Buffers one more change. Fails, and drops the change, if there are [`MAX_CHANGES`] already, or memory
+    /// cannot be allocated.
     pub fn write(&mut self, change: Change) -> Result<(), TxnError>
         ensures after { OnOk result (self.new
             ≡ record self.old { changes = self.old.changes ++ change ∷ [] }) }
@@ -121,7 +127,8 @@ impl RwCore {
         Ok(())
     }
 
-    /// What it was answered, in order, where no call is open. Whoever holds its base gives that up.
+    /// Ends the transaction without an open call, and returns the results that it has read, in order. The
+    /// holder of its base must release it.
     pub fn finish(self) -> Vec<Given>
         requires { IsRwIdle self }
         ensures { result.items ≡ self.answers }
@@ -138,7 +145,8 @@ impl RwCore {
         given
     }
 
-    /// Gives it up: every object is idle then, and its base is to be unpinned.
+    /// Cancels the transaction: every object is idle then, and the returned request removes the hold of its
+    /// base.
     pub fn cancel<A: App, C: Cacheable>(self, registry: &mut Registry<A, C>) -> PortRequest
         requires { IsRw A.next registry.old self }
         ensures idle { AllIdle registry.new }

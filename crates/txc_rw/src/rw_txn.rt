@@ -29,22 +29,22 @@ use txc_rows::{Change, Query, Row};
 use txc_stamp::Stamp;
 use txc_tags::{Key, Table};
 
-/// What a transaction that was committed gave.
+/// Result of a committed transaction.
 #[derive(Drop)]
 pub struct Committed {
-    /// The newest stamp that the commit left.
+    /// The newest stamp after the commit.
     pub stamp: Stamp,
-    /// What the transaction was answered, in order.
+    /// The results that the transaction has read, in order.
     pub answers: Vec<Given>,
     /// The history up to the stamp.
     pub front: HistoryFront,
 }
 
-/// A read-write transaction. It reads at its base, the newest stamp when it began, and keeps its changes
-/// until it commits. No node is used.
+/// A read-write transaction. It reads at its base, the newest stamp when it began, and buffers its changes
+/// until it commits. It uses no node.
 ///
-/// It holds its base until it is spent, by [`RwTxn::commit`] or [`RwTxn::abort`], which release the hold and
-/// return the registry of its functions.
+/// It is linear and holds its base: [`RwTxn::commit`] or [`RwTxn::abort`] must consume it, which release the
+/// hold and return the registry of its functions.
 pub struct RwTxn<'a, J: Naming, A: App, C: Cacheable> {
     database: &'a Database<J>,
     registry: Registry<A, C>,
@@ -64,7 +64,7 @@ impl<'a, J: Naming, A: App, C: Cacheable> Model for RwTxn<'a, J, A, C> {
 }
 
 impl<'a, J: Naming, A: App, C: Cacheable> RwTxn<'a, J, A, C> {
-    /// Begins a transaction at the newest stamp, which is held until it ends. A refusal returns the registry.
+    /// Begins a transaction at the newest stamp, which is held until it ends. An error returns the registry.
     #[tactic(auto, using(crate::proofs::Holding::holds_at_first))]
     pub fn begin(
         rt: &impl Wait,
@@ -90,9 +90,9 @@ impl<'a, J: Naming, A: App, C: Cacheable> RwTxn<'a, J, A, C> {
         })
     }
 
-    /// What holds of every transaction: each answer is what its call or its query gives at its base, and in
-    /// each other state in which the queries that were answered give what they give there; and every object
-    /// is idle. It does nothing when it runs.
+    /// In every transaction each result is the value of its call or the answer of its query at the base, and in
+    /// each other state in which the answered queries have the same answers; and every object is idle. This is
+    /// a lemma: it does nothing when it runs.
     pub fn is_right(&self)
         ensures idle { AllIdle self.now.objects }
         ensures base { self.now.core.base ≤ length self.now.history }
@@ -105,22 +105,22 @@ impl<'a, J: Naming, A: App, C: Cacheable> RwTxn<'a, J, A, C> {
         let _base = self.core.base();
     }
 
-    /// The stamp at which it reads.
+    /// Returns the stamp at which it reads.
     pub fn base(&self) -> Stamp
         ensures { result ≡ self.now.core.base }
     {
         self.core.base()
     }
 
-    /// What it was answered, in order.
+    /// Returns the results that it has read, in order.
     pub fn answers(&self) -> &[Given]
         ensures { result.now ≡ self.now.core.answers }
     {
         self.core.answers()
     }
 
-    /// The value of the call at its base. A refusal leaves the answers and the changes as they were; the
-    /// queries that were answered by then count as read.
+    /// Returns the value of the call at the base. After an error the results and the changes are as before; the
+    /// queries answered by then count as read.
     pub fn call(&mut self, rt: &impl Wait, alloc: Global, key: Key) -> Result<Value, TxnError>
         ensures answer { IfOk result (λ value.
             eval A.next key (state_at self.old.history self.old.core.base) ≡ Some value) }
@@ -152,8 +152,8 @@ impl<'a, J: Naming, A: App, C: Cacheable> RwTxn<'a, J, A, C> {
         )
     }
 
-    /// The rows of the query at its base. A refusal leaves the transaction as it was; but where it is out of
-    /// memory once the query was answered, that counts as read.
+    /// Returns the rows of the query at the base. After an error the transaction is as before, except that a
+    /// query whose answer could not be copied for want of memory counts as read.
     pub fn query(
         &mut self,
         rt: &impl Wait,
@@ -180,7 +180,8 @@ impl<'a, J: Naming, A: App, C: Cacheable> RwTxn<'a, J, A, C> {
         )
     }
 
-    /// The row is to stand at its table and id once the transaction is committed. It does not see it itself.
+    /// Buffers a put of the row at its table and id. The transaction's own reads do not see it. Fails if there
+    /// are [`MAX_CHANGES`] changes already, or memory cannot be allocated.
     pub fn put(&mut self, row: Row) -> Result<(), TxnError>
         ensures after { OnOk result (self.new ≡ record self.old {
           core = record self.old.core {
@@ -194,7 +195,8 @@ impl<'a, J: Naming, A: App, C: Cacheable> RwTxn<'a, J, A, C> {
         self.core.write(Change::Put(row))
     }
 
-    /// No row is to stand at the table and id once the transaction is committed.
+    /// Buffers the removal of the row at the table and id. Fails if there are [`MAX_CHANGES`] changes already,
+    /// or memory cannot be allocated.
     pub fn remove(&mut self, table: Table, id: u32) -> Result<(), TxnError>
         ensures after { OnOk result (self.new ≡ record self.old {
           core = record self.old.core {
@@ -208,9 +210,8 @@ impl<'a, J: Naming, A: App, C: Cacheable> RwTxn<'a, J, A, C> {
         self.core.write(Change::Remove(table, id))
     }
 
-    /// Commits the changes, where no event after the base matches what was read, and gives up the hold of the
-    /// base. A refusal is that of the database, in its order, and returns the transaction, open and still
-    /// holding its base.
+    /// Commits the changes if no event after the base matches what was read, and releases the hold of the base.
+    /// An error is that of the database, and returns the transaction, open and still holding its base.
     pub fn commit(
         self,
         rt: &impl Wait,
@@ -259,7 +260,7 @@ impl<'a, J: Naming, A: App, C: Cacheable> RwTxn<'a, J, A, C> {
         Ok((committed, registry))
     }
 
-    /// Gives the transaction up, and the hold of its base, and returns the registry. It takes no memory.
+    /// Aborts the transaction, releases the hold of its base, and returns the registry. Does not allocate.
     pub fn abort(self, rt: &impl Wait) -> Registry<A, C>
         ensures answer { result ≡ self.entry.objects }
         ensures idle { AllIdle result }

@@ -18,7 +18,7 @@ use txc_call::{CallError, CallMachine, Need, Reply};
 use txc_registry::{Cacheable, Registry};
 use txc_rows::Query;
 
-// The reply of a cache that has nothing and keeps nothing: none where the call needs no node.
+// Returns the reply of a cache that has nothing and stores nothing, or `None` if the call needs no node.
 fn reply_of_no_cache(machine: &CallMachine) -> Option<Reply>
     requires { IsSome machine.now.need }
     ensures { MatchOption result (needs_no_node machine.now.need)
@@ -32,7 +32,8 @@ fn reply_of_no_cache(machine: &CallMachine) -> Option<Reply>
     }
 }
 
-// Takes the reply of a cache that has nothing and keeps nothing, if the call needs a node. No function continues yet.
+// Gives the call the reply of a cache that has nothing and stores nothing, if it needs a node. No function
+// continues yet.
 pub(crate) fn pass_nodes(machine: &mut CallMachine)
     requires { IsSome machine.old.need }
     ensures after { machine.new
@@ -50,7 +51,7 @@ pub(crate) fn pass_nodes(machine: &mut CallMachine)
     }
 }
 
-// The query that the call needs; none where it is done.
+// Returns the query that the call needs, or `None` if it is done.
 fn needed(machine: &CallMachine) -> Option<Query>
     requires some { IsSome machine.now.need }
     requires settled { ¬ (NeedsFunction machine.now.need) }
@@ -63,7 +64,7 @@ fn needed(machine: &CallMachine) -> Option<Query>
     }
 }
 
-// Answers every lookup by a miss and passes over every insertion, until the call needs a query, which it returns,
+// Answers every lookup with a miss and skips every insertion, until the call needs a query, which it returns,
 // or is done.
 pub(crate) fn go_on_uncached<A: App, C: Cacheable>(
     machine: &mut CallMachine,

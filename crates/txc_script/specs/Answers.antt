@@ -1,4 +1,4 @@
--- What a kind of script does with a line, and after all lines.
+-- The effect of a line, and of the end of the script, in any kind of script.
 use Rattle.std.specs.Prelude.{◌≡◌, ◌⊎◌, ℕ, Bool, false, List, ◌++◌}
 use Rattle.std.specs.List.{list_any}
 use Rattle.txc_script.specs.Kinds.{ScriptKind, Given, is_malformed}
@@ -16,15 +16,15 @@ pub record LineIsAnswered {S A R F : Type 0} (kind : ScriptKind S A R F) (s : S)
   pub text : new ≡ old ++ kind.text reply
   pub is_refused : refused ≡ kind.is_refused reply
 
--- the line asks for nothing, this is wrong with its words, and nothing changed; or memory was refused, before anything
--- was done or while it was
+-- the line has this fault in its words, and nothing changed; or there is no memory, before the line's step or
+-- during it
 abbrev pub IsUnanswered : {S A R F : Type 0} → ScriptKind S A R F → S → List ℕ → S → Unanswered F → Type 0
 IsUnanswered {S} {A} {R} {F} kind s line end (Wrong fault) =
     ((asked : A) → kind.asks s line asked → ⊥) × (end ≡ s) × kind.is_wrong s (words_of line) fault
 IsUnanswered kind s line end Memory = (end ≡ s) ⊎ kind.breaks_off s line end
 
--- what comes after lines that left this state was done, whatever they gave, and what is written of it was put
--- after the text
+-- the steps at the end of the script were done after lines that left this state, whatever the lines gave, and
+-- their text was appended
 pub record IsClosed {S A R F : Type 0} (kind : ScriptKind S A R F) (s end : S) (old new : List ℕ) (refused : Bool)
     : Type 0 where
   pub more : List ℕ

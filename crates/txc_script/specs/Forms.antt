@@ -5,8 +5,8 @@ use Rattle.txc_script.specs.SaidWords.{AllSaidOf, Mean}
 use Rattle.txc_script.specs.Words.{words_of}
 use Rattle.txc_script.specs.declared.line_fault.WordKind.{WordKind}
 
--- a form of lines: the name that they begin with, of which kinds the words after it are, and what a line asks for by
--- what those words say
+-- a form of lines: the name at the beginning, the kinds of the words after it, and the request that their
+-- values make
 pub record LineForm (A : Type 0) : Type 0 where
   pub name : List ℕ
   pub kinds : List WordKind

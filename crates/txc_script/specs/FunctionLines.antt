@@ -1,4 +1,4 @@
--- What is counted of a function, and how it is written.
+-- The counts of a function, and their text.
 use Rattle.std.specs.Prelude.{ℕ, List, ◌++◌, codes}
 use Rattle.std.specs.Fmt.{decimal}
 use Rattle.std.specs.List.{sum_by}
@@ -6,7 +6,7 @@ use Rattle.txc_node.specs.declared.counts.FunctionCounts.{FunctionCounts}
 use Rattle.txc_node.specs.declared.record.Record.{Record}
 use Rattle.txc_node.specs.Counts.{step_counts}
 
--- what the steps count for a function
+-- the counts of a function in these steps
 abbrev pub counts_in : List Record → ℕ → FunctionCounts
 counts_in steps f = record {
   lookups = sum_by (λ s. (step_counts f s).lookups) steps;

@@ -1,4 +1,4 @@
--- What the lines of a script give, and how a run of it ends, whatever kind of script it is.
+-- The results of a script's lines, and the end of a run, for any kind of script.
 use Rattle.std.specs.Prelude.{◌≡◌, ◌⊎◌, ◌<◌, ◌≤◌, ℕ, ◌+◌, ◌||◌, Bool, true, false, List, [], ◌∷◌, ◌++◌, Some, codes, length, position, slice_index, MatchBool}
 use Rattle.std.specs.Fmt.{decimal}
 use Rattle.std.specs.List.{flat_map, list_any}
@@ -17,13 +17,13 @@ use Rattle.txc_script.specs.declared.line_fault.MalformedLine.{MalformedLine}
 
 -- ---- a kind of script
 
--- a line gives no reply, or asks for something and gives its reply, or is malformed and has this number
+-- a line gives no reply; or makes a request and gives its reply; or is malformed, and has this number
 pub data Given (A R : Type 0) : Type 0 where
   Nothing : Given A R
   Replied : A → R → Given A R
   Malformed : ℕ → Given A R
 
--- what comes after all lines: what is written, and whether it holds a refusal
+-- the result after all lines: the text, and whether it has a refusal
 pub record Closing : Type 0 where
   pub text : List ℕ
   pub is_refused : Bool
@@ -32,11 +32,11 @@ pub record Closing : Type 0 where
 abbrev pub no_closing : Closing
 no_closing = record { text = []; is_refused = false }
 
--- A kind of script, by the states that its lines find and leave, by what they ask for and by the replies. It says
--- what a line asks for that finds a state; what it is replied, and the state that it leaves; and the states in
--- which it breaks off where memory is refused. It says what is written of a reply, and whether it holds a refusal;
--- and what is wrong with the words of a line that asks for nothing. And it says what comes after all lines, by what
--- they gave, in the state that they left; and the states in which that breaks off.
+-- A kind of script, given by the states that its lines find and leave, by their requests, and by the replies.
+-- It defines the request of a line in a state; its reply, with the next state; and the states in which a line
+-- stops if there is no memory. It defines the text of a reply, whether that is a refusal, and the fault of a
+-- line whose words make no request. And it defines the result after all lines in the state that they left, and
+-- the states in which that stops for want of memory.
 pub record ScriptKind (S A R F : Type 0) : Type 1 where
   pub asks : S → List ℕ → A → Type 0
   pub does : S → A → R → S → Type 0
@@ -58,8 +58,8 @@ pub record IsMalformed {S A R F : Type 0} (kind : ScriptKind S A R F) (s : S) (l
   pub not_quiet : IsQuiet line → ⊥
   pub asks_nothing : (asked : A) → Asks kind s line asked → ⊥
 
--- What is wrong with a malformed line: there are too many bytes; else a foreign one; else an empty word; else
--- it is in its words, in the state that it finds.
+-- The fault of a malformed line, in this order: it is too long; it has a foreign byte; it has an empty word; or
+-- its words have a fault in the state that it finds.
 abbrev pub IsFaultOf : {S A R F : Type 0} → ScriptKind S A R F → S → List ℕ → LineFault F → Type 0
 IsFaultOf kind s line faults.TooLong = MAX_LINE_LEN < length line
 IsFaultOf kind s line (faults.Byte at byte) =
@@ -67,14 +67,14 @@ IsFaultOf kind s line (faults.Byte at byte) =
 IsFaultOf kind s line faults.Blanks = IsPlain line × (list_any is_empty (words_of line) ≡ true)
 IsFaultOf kind s line (faults.Command fault) = HasWholeWords line × kind.is_wrong s (words_of line) fault
 
--- ---- what the lines give
+-- ---- the results of the lines
 
 abbrev pub is_malformed : {A R : Type 0} → Given A R → Bool
 is_malformed Nothing = false
 is_malformed (Replied asked reply) = false
 is_malformed (Malformed number) = true
 
--- a refusal is written of it, or the line was malformed
+-- the text of the line is a refusal, or the line was malformed
 abbrev pub is_refused : {S A R F : Type 0} → ScriptKind S A R F → Given A R → Bool
 is_refused kind Nothing = false
 is_refused kind (Replied asked reply) = kind.is_refused reply
@@ -84,17 +84,17 @@ is_refused kind (Malformed number) = true
 abbrev pub malformed_text : ℕ → List ℕ
 malformed_text number = codes "line " ++ (decimal number ++ (codes ": malformed" ++ 10 ∷ []))
 
--- what is written of a line
+-- the text of a line's result
 abbrev pub line_text : {S A R F : Type 0} → ScriptKind S A R F → Given A R → List ℕ
 line_text kind Nothing = []
 line_text kind (Replied asked reply) = kind.text reply
 line_text kind (Malformed number) = malformed_text number
 
--- what is written of the lines, one after the other
+-- the texts of the results, one after the other
 abbrev pub lines_text : {S A R F : Type 0} → ScriptKind S A R F → List (Given A R) → List ℕ
 lines_text kind given = flat_map (line_text kind) given
 
--- what a line, which has this number, gives in a state, and the state that it leaves
+-- the result of a line of this number in a state, and the state that it leaves
 abbrev pub Gives : {S A R F : Type 0} → ScriptKind S A R F → S → ℕ → List ℕ → Given A R → S → Type 0
 Gives kind s number line Nothing next = IsQuiet line × (next ≡ s)
 Gives kind s number line (Replied asked reply) next = Asks kind s line asked × kind.does s asked reply next
@@ -105,8 +105,8 @@ abbrev pub EndsAtMalformed : Bool → List (List ℕ) → Type 0
 EndsAtMalformed true lines = lines ≡ []
 EndsAtMalformed false lines = Unit {0}
 
--- What each of the lines gives, in order: the first has this number, the next the one after it, and each
--- finds the state that the lines before it left.
+-- The results of the lines, in order: the first line has this number, each next one the number after it, and
+-- each finds the state that the lines before it left.
 abbrev pub AreGiven : {S A R F : Type 0} → ScriptKind S A R F → S → ℕ → List (List ℕ) → List (Given A R) → S
     → Type 0
 AreGiven kind s number [] [] end = end ≡ s
@@ -116,21 +116,21 @@ AreGiven {S} {A} {R} {F} kind s number (line ∷ lines) (g ∷ given) end =
     (next : S) × Gives kind s number line g next × EndsAtMalformed (is_malformed g) lines
     × AreGiven kind next (number + 1) lines given end
 
--- what comes after lines that gave this, and the state that is left: nothing, where one was malformed
+-- the result after lines with these results, and the last state: nothing if a line was malformed
 abbrev pub ClosesScript : {S A R F : Type 0} → ScriptKind S A R F → S → List (Given A R) → Closing → S → Type 0
 ClosesScript kind s given closing end =
     MatchBool (list_any is_malformed given) ((closing ≡ no_closing) × (end ≡ s))
     (kind.closes s given closing end)
 
--- ---- how a run of them ends
+-- ---- the end of a run
 
--- the lines of a whole script; or those up to a malformed one, and what comes after it was not answered
+-- the lines of the whole script; or those up to a malformed one, after which no line was answered
 abbrev pub IsWholeScript : {A R : Type 0} → List ℕ → Type 0 → List (List ℕ) → List (Given A R) → Type 0
 IsWholeScript read at_end lines given =
     (AreLinesOf read lines × at_end)
     ⊎ ((others : List ℕ) × BeginsWithLines read lines others × (list_any is_malformed given ≡ true))
 
--- first lines of what was read, or all lines of a whole script
+-- some first lines of the bytes read, or all lines of a whole script
 abbrev pub AreFirstLines : List ℕ → Type 0 → List (List ℕ) → Type 0
 AreFirstLines read at_end lines =
     ((others : List ℕ) × BeginsWithLines read lines others) ⊎ (AreLinesOf read lines × at_end)
@@ -142,8 +142,8 @@ EndInFault kind s lines malformed =
     × ((before : List (List ℕ)) × (line : List ℕ) × (lines ≡ before ++ line ∷ [])
     × IsFaultOf kind s line malformed.fault)
 
--- no refusal was written; or one was, and no line was malformed; or the last one was malformed, for this
--- fault in the state that it found, which is the one that is left
+-- the status of a run: no refusal was written; or one was, and no line was malformed; or the last line was
+-- malformed, with this fault in the state that it found, which is the last state
 abbrev pub IsStatusOf : {S A R F : Type 0} → ScriptKind S A R F → S → List (List ℕ) → List (Given A R) → Closing
     → Status F → Type 0
 IsStatusOf kind left lines given closing Done =

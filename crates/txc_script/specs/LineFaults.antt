@@ -1,4 +1,4 @@
--- What is wrong with words, and with the words of a line.
+-- The faults of words, and of the words of a line.
 use Rattle.std.specs.Prelude.{◌≡◌, ◌≢◌, ◌⊎◌, ◌==◌, ◌+◌, ℕ, Bool, true, false, List, [], ◌∷◌, ◌++◌, Option, Some, None, Result, Ok, Err, ⊤, length, nat_lt, ◌||◌}
 use Rattle.std.specs.List.{list_any}
 use Rattle.txc_tags.specs.TextGrammar.{IsLongestPrefix}
@@ -29,13 +29,14 @@ AreOfKinds [] (word ∷ words) = ⊥
 AreOfKinds (kind ∷ kinds) [] = ⊥
 AreOfKinds (kind ∷ kinds) (word ∷ words) = IsOfKind kind word × AreOfKinds kinds words
 
--- the kinds of so many words: these, and then the other one
+-- the kinds of a list of words: these, and then the other one
 abbrev pub kinds_for : List WordKind → WordKind → List (List ℕ) → List WordKind
 kinds_for kinds other [] = []
 kinds_for [] other (word ∷ words) = other ∷ kinds_for [] other words
 kinds_for (kind ∷ kinds) other (word ∷ words) = kind ∷ kinds_for kinds other words
 
--- where a key or tags go wrong: no longer prefix of the word begins a key's text, or the text of tags
+-- the place of the first fault in a key or in tags: the length of the longest prefix of the word with which a
+-- key's text, or a text of tags, begins
 abbrev pub StopsAt : WordKind → List ℕ → Option ℕ → Type 0
 StopsAt Key word at = (n : ℕ) × (at ≡ Some n) × IsLongestPrefix IsKeyInRange key_text word n
 StopsAt Tags word at = (n : ℕ) × (at ≡ Some n) × IsLongestPrefix AreSpeltInRange spelt_tags_text word n
@@ -56,7 +57,7 @@ pub record IsBadWord (kinds : List WordKind) (words : List (List ℕ)) (fault : 
   pub text : fault.text ≡ excerpt_of word
   pub stops : StopsAt fault.kind word fault.at
 
--- what a word of this kind says takes memory
+-- reading a word of this kind allocates
 abbrev pub takes_memory : WordKind → Bool
 takes_memory Tags = true
 takes_memory Bytes = true
@@ -71,23 +72,22 @@ is_foreign b = nat_lt b 32 || nat_lt 126 b
 abbrev pub is_empty : List ℕ → Bool
 is_empty word = length word == 0
 
--- the line's bytes are as they may be, and no word is empty: no blank stands at an end, and no two side by
--- side
+-- the line has only permitted bytes and no empty word: no blank at either end, and no two together
 pub record HasWholeWords (line : List ℕ) : Type 0 where
   pub plain : IsPlain line
   pub none_empty : list_any is_empty (words_of line) ≡ false
 
 -- ---- commands
 
--- what is wrong with words that are to be of these kinds: their number is another; else one is not of its kind
+-- the fault of words that must have these kinds: their number is another; else one is not of its kind
 abbrev pub IsKindsFault : {F : Type 0} → List WordKind → List (List ℕ) → CommandFault F → Type 0
 IsKindsFault kinds words (Count wanted given) =
     (wanted ≡ length kinds) × (given ≡ length words) × (given ≢ wanted)
 IsKindsFault kinds words (Word fault) = (length words ≡ length kinds) × IsBadWord kinds words fault
 IsKindsFault kinds words fault = ⊥
 
--- What is wrong with the words of a line that is of no form of a table: no form has its name; else it is in the words
--- after that name.
+-- The fault of a line's words by a table of forms: no form has its name; else the fault is in the words after
+-- the name.
 abbrev pub IsCommandFault : {A F : Type 0} → List (LineForm A) → List (List ℕ) → CommandFault F → Type 0
 IsCommandFault {A} {F} forms all fault =
     ((name : List ℕ) × (words : List (List ℕ)) × (all ≡ name ∷ words) × (form_named forms name ≡ None)
@@ -95,23 +95,23 @@ IsCommandFault {A} {F} forms all fault =
     ⊎ ((form : LineForm A) × (words : List (List ℕ)) × (all ≡ form.name ∷ words)
     × (form_named forms form.name ≡ Some form) × IsKindsFault form.kinds words fault)
 
--- what is wrong is this, or a growth was refused
+-- the fault is one of these, or there is no memory
 abbrev pub IsWrong : {F : Type 0} → (CommandFault F → Type 0) → Unanswered F → Type 0
 IsWrong Is (Wrong fault) = Is fault
 IsWrong Is Memory = ⊤
 
 -- ---- only private functions need this
 
--- there is no such value, and it goes wrong there; or a growth was refused
+-- no such value exists, and this is the place of the fault; or there is no memory
 abbrev pub SaysNone : {V : Type 0} → (V → Type 0) → (Option ℕ → Type 0) → Unsaid → Type 0
 SaysNone {V} Is Stops (unsaid.Bad at) = ((v : V) × Is v → ⊥) × Stops at
 SaysNone Is Stops unsaid.Memory = ⊤
 
--- the word is of another kind, and goes wrong there; or a growth was refused
+-- the word is not of this kind, and this is the place of its fault; or there is no memory
 abbrev pub IsUnsaid : WordKind → List ℕ → Unsaid → Type 0
 IsUnsaid kind word = SaysNone (Means kind word) (StopsAt kind word)
 
--- the word is of this kind, and a reader gives this; or it is of another
+-- the word is of this kind, and a reader returns this; or it is not
 abbrev pub IsWordRead : WordKind → List ℕ → Result Said Unsaid → Type 0
 IsWordRead kind word (Ok given) = SaysWord kind word given
 IsWordRead kind word (Err reason) = IsUnsaid kind word reason

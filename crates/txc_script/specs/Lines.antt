@@ -1,4 +1,4 @@
--- What a line is, and what some of its words are, by how each is written.
+-- The text of a line, and of several kinds of words.
 use Rattle.std.specs.Prelude.{◌≡◌, ℕ, ◌≤◌, Bool, true, false, List, [], ◌∷◌, Option, Some, None, if◌then◌else◌, length, codes}
 use Rattle.std.specs.Str.{bytes_eq}
 use Rattle.std.specs.List.{All, AllByRecursion}
@@ -25,11 +25,11 @@ IsKeyWord word key = IsTextOf IsKeyInRange key_text word key
 abbrev pub IsStampWord : List ℕ → ℕ → Type 0
 IsStampWord word stamp = IsTextOf (λ n. n ≤ LAST_STAMP) decimal word stamp
 
--- a number of at most so much
+-- the decimal text of a number up to this limit
 abbrev pub IsNumberWord : ℕ → List ℕ → ℕ → Type 0
 IsNumberWord most word number = IsTextOf (λ n. n ≤ most) decimal word number
 
--- one byte to so many, each of those that print and are no blank
+-- at least one byte and at most `limit`, each printable and not a blank
 pub record IsTextWord (limit : ℕ) (word : List ℕ) : Type 0 where
   pub some : 1 ≤ length word
   pub most : length word ≤ limit
@@ -59,7 +59,7 @@ change_named word =
     if bytes_eq word (change_text changes.Put) then Some changes.Put
     else (if bytes_eq word (change_text changes.Remove) then Some changes.Remove else None)
 
--- tags in any order and with repeats; the set is what adding them one after the other gives
+-- tags in any order, also repeated; the set is the result of adding them one after the other
 abbrev pub IsTagsWord : List ℕ → List Tag → Type 0
 IsTagsWord word tags = IsSetOfText word tags
 

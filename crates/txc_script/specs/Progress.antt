@@ -18,12 +18,12 @@ use Rattle.txc_script.specs.declared.running.Flow.TheVariants.{GoesOn, Stopped}
 use Rattle.txc_script.specs.declared.running.Replies.{Replies}
 use Rattle.txc_script.specs.declared.running.Running.{Running}
 
--- how much of a line is kept
+-- the part of a line that is kept
 abbrev pub kept_of : List ℕ → List ℕ
 kept_of line = take MAX_KEPT line
 
--- the state of a run and how many lines it has read, what it keeps of the line that has not ended, the
--- replies at hand, and whether a refusal was written
+-- the state of a run, the number of lines read, the kept part of the line that has not ended, the pending
+-- replies, and whether a refusal was written
 pub record Progress (S : Type 0) : Type 0 where
   pub state : S
   pub lines : ℕ
@@ -40,7 +40,8 @@ progress_of state r = record {
   refused = r.replies.is_refused;
 }
 
--- a line was answered that has this number: it found one state and left another, and what it gave was taken
+-- a line of this number was answered: it found one state and left another, and its result was added to the
+-- replies
 pub record AnswersLine {S A R F : Type 0} (kind : ScriptKind S A R F) (s next : S) (old new : Replies F) (number : ℕ)
     (line : List ℕ) (flow : Flow F) : Type 0 where
   pub given : Given A R
@@ -53,8 +54,8 @@ pub record AnswersLine {S A R F : Type 0} (kind : ScriptKind S A R F) (s next : 
 abbrev pub MayBreakOff : {S A R F : Type 0} → ScriptKind S A R F → S → List ℕ → S → Type 0
 MayBreakOff kind s line end = (end ≡ s) ⊎ (IsPlain line × kind.breaks_off s line end)
 
--- the lines that have ended were answered, and none was malformed; these bytes were written, and the rest of
--- the replies is at hand
+-- the lines that have ended were answered, and none was malformed; these bytes were written, and the remaining
+-- replies are pending
 pub record HasAnsweredLines {S A R F : Type 0} (kind : ScriptKind S A R F) (start : S) (read written : List ℕ)
     (p : Progress S) : Type 0 where
   pub lines : List (List ℕ)
@@ -80,7 +81,7 @@ pub record HasLast {S A R F : Type 0} (kind : ScriptKind S A R F) (start : S) (r
   pub refused : p.refused ≡ list_any (is_refused kind) given
   pub well_formed : list_any is_malformed given ≡ false
 
--- how a run ends in which a refusal was written or none was, and that goes so far and no further
+-- the result of a run that ended so, by whether a refusal was written
 abbrev pub result_after : {F : Type 0} → Bool → Result (Flow F) AllocError → Result (Status F) RunFault
 result_after refused (Ok flow) = Ok (status_after refused flow)
 result_after refused (Err e) = Err Memory
@@ -91,15 +92,15 @@ abbrev pub IsAtLast : {S A R F : Type 0} → ScriptKind S A R F → S → List �
 IsAtLast kind start read at_end written p r =
     ScriptHasWritten kind start read at_end (written ++ p.text) (result_after p.refused r) p.state
 
--- the lines that end in the bytes were answered: the run goes on, or was stopped by a malformed line, or is
--- out of memory
+-- the lines that end in the bytes were answered: the run continues, or a malformed line stopped it, or there is
+-- no memory
 abbrev pub AnswersAs : {S A R F : Type 0} → ScriptKind S A R F → S → List ℕ → List ℕ → Progress S
     → Result (Flow F) AllocError → Type 0
 AnswersAs kind start read written p (Ok GoesOn) = HasAnsweredLines kind start read written p
 AnswersAs kind start read written p (Ok (Stopped bad)) = IsAtLast kind start read ⊥ written p (Ok (Stopped bad))
 AnswersAs kind start read written p (Err e) = IsAtLast kind start read ⊥ written p (Err e)
 
--- the last line was answered, or was malformed, or the run is out of memory
+-- the last line was answered, or was malformed, or there is no memory
 abbrev pub AnswersLast : {S A R F : Type 0} → ScriptKind S A R F → S → List ℕ → List ℕ → Progress S
     → Result (Flow F) AllocError → Type 0
 AnswersLast kind start read written p (Ok GoesOn) = HasLast kind start read written p
@@ -122,7 +123,7 @@ EndsWith kind start read at_end written contents_old contents_new result left =
     (more : List ℕ) × Appends contents_old contents_new more
     × ScriptHasWritten kind start read at_end (written ++ more) result left
 
--- the lines that end in the bytes of a read were answered, and the replies written: the run goes on, or it
+-- the lines that end in the bytes of a read were answered, and their replies written: the run continues, or
 -- ends so
 abbrev pub TurnsTo : {S A R F : Type 0} → ScriptKind S A R F → S → List ℕ → List ℕ → Progress S → Option (List ℕ)
     → Option (List ℕ) → Result (Flow F) RunFault → Type 0

@@ -1,4 +1,4 @@
--- What words say, by their kinds.
+-- The values of words, by their kinds.
 use Rattle.std.specs.Prelude.{◌≡◌, ℕ, Bool, List, [], ◌∷◌, Some}
 use Rattle.txc_tags.specs.declared.key.TheConstants.{LAST_FUNCTION}
 use Rattle.txc_tags.specs.declared.tag.TheConstants.{LAST_TABLE}
@@ -14,7 +14,7 @@ use Rattle.txc_script.specs.declared.said.QueryName.{QueryName}
 use Rattle.txc_script.specs.declared.said.Said.{Said}
 use Rattle.txc_script.specs.declared.said.Said.TheVariants as said
 
--- what words of a kind say
+-- the type of the values of words of a kind
 abbrev pub SaidOf : WordKind → Type 0
 SaidOf kinds.Key = Call
 SaidOf kinds.Reach = Bool
@@ -25,7 +25,7 @@ SaidOf kinds.QueryName = QueryName
 SaidOf kinds.ChangeName = ChangeName
 SaidOf kind = ℕ
 
--- the word says this
+-- the word has this value
 abbrev pub Means : (kind : WordKind) → List ℕ → SaidOf kind → Type 0
 Means kinds.Key = IsKeyWord
 Means kinds.Stamp = IsStampWord
@@ -44,7 +44,7 @@ Means kinds.ChangeName = λ word name. change_named word ≡ Some name
 abbrev pub IsOfKind : WordKind → List ℕ → Type 0
 IsOfKind kind word = (value : SaidOf kind) × Means kind word value
 
--- the word is one of this kind, and a reader gives this
+-- the word is of this kind, and a reader returns this
 abbrev pub SaysWord : WordKind → List ℕ → Said → Type 0
 SaysWord kinds.Key word (said.Key key) = IsKeyWord word key
 SaysWord kinds.Stamp word (said.Stamp stamp) = IsStampWord word stamp
@@ -60,18 +60,18 @@ SaysWord kinds.Tags word said.Other = IsOfKind kinds.Tags word
 SaysWord kinds.Bytes word said.Other = IsOfKind kinds.Bytes word
 SaysWord kind word given = ⊥
 
--- each of the words is of its kind, and a reader gives these
+-- each of the words is of its kind, and a reader returns these
 abbrev pub SayAll : List WordKind → List (List ℕ) → List Said → Type 0
 SayAll [] [] [] = Unit {0}
 SayAll (kind ∷ kinds) (word ∷ words) (value ∷ values) = SaysWord kind word value × SayAll kinds words values
 SayAll kinds words values = ⊥
 
--- what words of these kinds say, each in its place
+-- the values of words of these kinds, in order
 abbrev pub AllSaidOf : List WordKind → Type 0
 AllSaidOf [] = Unit {0}
 AllSaidOf (kind ∷ kinds) = SaidOf kind × AllSaidOf kinds
 
--- each of the words says its value
+-- each of the words has its value
 abbrev pub Mean : (kinds : List WordKind) → List (List ℕ) → AllSaidOf kinds → Type 0
 Mean [] [] values = Unit {0}
 Mean [] (word ∷ words) values = ⊥

@@ -6,7 +6,7 @@ use Rattle.std.specs.List.{All, flat_map}
 abbrev pub ended : List ℕ → List ℕ
 ended line = line ++ 10 ∷ []
 
--- no line feed stands in the bytes
+-- the bytes have no line feed
 abbrev pub HasNoEnd : List ℕ → Type 0
 HasNoEnd bytes = All (λ b. b ≢ 10) bytes
 
@@ -15,7 +15,7 @@ pub record BeginsWithLines (bytes : List ℕ) (lines : List (List ℕ)) (others 
   pub joined : bytes ≡ flat_map ended lines ++ others
   pub each_is_one : All HasNoEnd lines
 
--- what is left after the last line feed is a line too, where it is not empty
+-- the bytes after the last line feed are a line too, if there are any
 abbrev pub last_line : List ℕ → List (List ℕ)
 last_line [] = []
 last_line (b ∷ bytes) = (b ∷ bytes) ∷ []

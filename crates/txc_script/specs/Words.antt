@@ -3,11 +3,11 @@ use Rattle.std.specs.Prelude.{◌≡◌, ◌≢◌, ◌==◌, ℕ, Bool, List, t
 use Rattle.std.specs.List.{All, join_with_byte, slice_split}
 use Rattle.txc_script.specs.declared.words.WordsLeft.{WordsLeft}
 
--- no blank stands in the bytes
+-- the bytes have no blank
 abbrev pub HasNoBlank : List ℕ → Type 0
 HasNoBlank bytes = All (λ b. b ≢ 32) bytes
 
--- the line is these words, with one blank between each two; no blank stands in a word
+-- the line is these words, with one blank between each two; no word has a blank
 pub record HasWords (line : List ℕ) (words : List (List ℕ)) : Type 0 where
   pub joined : line ≡ join_with_byte 32 words
   pub each_is_one : All HasNoBlank words
@@ -18,7 +18,7 @@ pub record HasWords (line : List ℕ) (words : List (List ℕ)) : Type 0 where
 abbrev pub is_blank : ℕ → Bool
 is_blank b = b == 32
 
--- what stands between the blanks of a text
+-- the words of a text: the bytes between its blanks
 abbrev pub words_of : List ℕ → List (List ℕ)
 words_of text = slice_split is_blank text
 

@@ -1,4 +1,4 @@
--- What a writer took before it failed.
+-- The bytes that a writer took before it failed.
 use Rattle.std.specs.Prelude.{ℕ, ◌≤◌, List, length, take, Option}
 use Rattle.std.specs.Io.KnownBytes.{Appends}
 

@@ -1,15 +1,15 @@
-//! The first bytes of a text, kept in place.
+//! The first bytes of a text, stored in place.
 ghost use Rattle.std.specs.Prelude.{◌≡◌, ◌≤◌, length};
 ghost use Rattle.txc_script.specs.Excerpts.{excerpt_of};
 
 use std::fmt;
 use std::marker::Model;
 
-/// How much of a text is kept.
+/// The number of bytes of a text that are stored.
 pub const MAX_SHOWN: usize = 40;
 
-/// How a text begins, up to [`MAX_SHOWN`] bytes, and how many it has. It is printed with `...` after it where
-/// the text goes on.
+/// The first bytes of a text, up to [`MAX_SHOWN`], and its length. It is printed with `...` at its end if the
+/// text is longer.
 #[derive(Debug, Drop)]
 pub struct Excerpt {
     len: usize,
@@ -30,7 +30,7 @@ impl Model for Excerpt {
 }
 
 impl Excerpt {
-    /// That of a text.
+    /// Makes the excerpt of a text.
     pub fn new(text: &[u8]) -> Excerpt
         ensures { result ≡ excerpt_of text.now }
     {
@@ -41,7 +41,7 @@ impl Excerpt {
         }
     }
 
-    /// That of a text which begins so, and has so many bytes.
+    /// Makes the excerpt of a text with these first bytes and this length.
     fn keep(start: &[u8], len: usize) -> Excerpt
         requires { length start.now ≤ MAX_SHOWN }
         ensures { result ≡ record { start = start.now; len = len } }
@@ -55,14 +55,14 @@ impl Excerpt {
         }
     }
 
-    /// How the text begins.
+    /// Returns the first bytes of the text.
     pub fn start(&self) -> &[u8]
         ensures { result.now ≡ self.now.start }
     {
         &self.bytes[..self.count]
     }
 
-    /// How many bytes the text has.
+    /// Returns the number of bytes of the text.
     pub fn text_len(&self) -> usize
         ensures { result ≡ self.now.len }
     {

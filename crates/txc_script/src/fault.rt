@@ -1,23 +1,22 @@
-//! How a run ends.
+//! Ends of runs.
 ghost use Rattle.txc_script.specs.declared.line_fault.MalformedLine.{MalformedLine};
 ghost use Rattle.std.specs.Prelude.{◌≡◌, Ok, Err};
 
 use crate::line_fault::MalformedLine;
 use thiserror::Error;
 
-/// How a run ended that reached the end of its script, or a malformed line.
+/// Status of a run that reached the end of its script, or a malformed line.
 #[derive(Debug, Drop)]
 pub enum Status<F> {
-    /// No line was refused.
+    /// No reply is a refusal.
     Done,
-    /// A line was refused, and none was malformed.
+    /// A reply is a refusal, and no line is malformed.
     Refused,
     /// The last line that was read is malformed.
     Malformed(MalformedLine<F>),
 }
 
-/// Why a run ended early. The replies to the lines before were written, as far as the writer took
-/// them.
+/// Errors that end a run early. The replies to the lines before were written, as far as the writer took them.
 #[derive(Clone, Copy, Debug, PartialEq, Eq, Error)]
 pub enum RunFault {
     /// The reader failed, or did not reach its end within [`crate::MAX_READS`] reads.
@@ -26,12 +25,13 @@ pub enum RunFault {
     /// The writer failed, or took no byte.
     #[error("write fault")]
     Write,
-    /// A growth was refused.
+    /// Memory cannot be allocated.
     #[error("memory")]
     Memory,
 }
 
-/// The status that a program ends with after a run that ended so.
+/// Returns the exit status of a program after such a run: 0, or 1 after a refusal or a malformed line, 4 after
+/// a fault of the reader or the writer, 5 if memory could not be allocated.
 pub fn exit_of<F>(ended: &Result<Status<F>, RunFault>) -> u8
     ensures all_done { ended.now ≡ Ok Status.Done → result ≡ 0 }
     ensures line_refused { ended.now ≡ Ok Status.Refused → result ≡ 1 }

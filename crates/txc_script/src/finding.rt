@@ -1,4 +1,4 @@
-//! Finding what is wrong with a malformed line.
+//! Finding the fault of a malformed line.
 ghost use Rattle.std.specs.Prelude.{◌≡◌, ◌∷◌, ◌↔◌, ℕ, List, position, IsTrue};
 ghost use Rattle.std.specs.List.{list_any};
 ghost use Rattle.txc_script.specs.Kinds.{IsFaultOf};
@@ -17,7 +17,7 @@ use std::alloc::Global;
 use txc_stamp::Stamp;
 use txc_tags::{Key, TagSet, read_number};
 
-/// Whether the word has at most so many bytes, each of which prints.
+/// Returns `true` if the word has at most `most` bytes, all printable.
 fn is_text(most: usize, word: &[u8]) -> bool
     ensures { IsTrue result ↔ IsTextWord most word.now }
 {
@@ -27,7 +27,7 @@ fn is_text(most: usize, word: &[u8]) -> bool
     word.iter().all(|byte| *byte >= 0x21 && *byte <= 0x7e)
 }
 
-/// The name of a query that the word is.
+/// Returns the name of a query that the word is, if it is one.
 pub fn query_name(word: &[u8]) -> Option<QueryName>
     ensures { result ≡ query_named word.now }
 {
@@ -46,7 +46,7 @@ pub fn query_name(word: &[u8]) -> Option<QueryName>
     None
 }
 
-/// The name of a change that the word is.
+/// Returns the name of a change that the word is, if it is one.
 pub fn change_name(word: &[u8]) -> Option<ChangeName>
     ensures { result ≡ change_named word.now }
 {
@@ -59,7 +59,7 @@ pub fn change_name(word: &[u8]) -> Option<ChangeName>
     None
 }
 
-/// What the word says, if it is of its kind.
+/// Returns the meaning of the word. Fails if it is not of its kind, or if memory cannot be allocated.
 pub fn read_word(alloc: Global, kind: WordKind, word: &[u8]) -> Result<Said<'_>, Unsaid>
     ensures { IsWordRead kind word.now result }
 {
@@ -91,7 +91,7 @@ pub fn read_word(alloc: Global, kind: WordKind, word: &[u8]) -> Result<Said<'_>,
     }
 }
 
-/// The first of these kinds, or the other one, and the kinds after it.
+/// Returns the first of these kinds, or the other one if there is none, and the kinds after it.
 pub fn next_kind(kinds: &[WordKind], other: WordKind) -> (WordKind, &[WordKind])
     ensures { (word : List ℕ) (words : List (List ℕ)) → kinds_for kinds.now other (word ∷ words)
         ≡ result.0 ∷ kinds_for result.1.now other words }
@@ -102,14 +102,14 @@ pub fn next_kind(kinds: &[WordKind], other: WordKind) -> (WordKind, &[WordKind])
     }
 }
 
-/// The place of the first byte that no line may have.
+/// Returns the place of the first byte that no line may have.
 fn foreign_at(line: &[u8]) -> Option<usize>
     ensures { result ≡ position is_foreign line.now }
 {
     line.iter().position(|b| *b < 0x20 || *b > 0x7e)
 }
 
-/// Whether a word of the line is empty.
+/// Returns `true` if a word of the line is empty.
 fn has_empty_word(line: &[u8]) -> bool
     ensures { result ≡ list_any is_empty (words_of line.now) }
 {
@@ -122,7 +122,7 @@ fn has_empty_word(line: &[u8]) -> bool
     false
 }
 
-/// What is wrong with a line whose bytes are not as they may be.
+/// Returns the fault of a line whose bytes are not allowed.
 pub fn bad_bytes<K: Script>(kind: &K, state: &K::State, line: &[u8]) -> LineFault<K::Fault>
     requires { IsPlain line.now → ⊥ }
     ensures { IsFaultOf (K.kind kind.now) state.now line.now result }
@@ -136,7 +136,7 @@ pub fn bad_bytes<K: Script>(kind: &K, state: &K::State, line: &[u8]) -> LineFaul
     }
 }
 
-/// What is wrong with a line of whose words this is: that a word is empty is said first.
+/// Returns the fault of a line whose words have this fault. An empty word is reported first.
 pub fn bad_words<K: Script>(
     kind: &K,
     state: &K::State,

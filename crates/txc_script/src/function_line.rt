@@ -1,8 +1,8 @@
-//! The line of a function: what is counted of it.
+//! The report's line of a function.
 use std::fmt;
 use txc_node::FunctionCounts;
 
-/// What is counted of a function. It is printed as a report's line, without the line feed.
+/// The counts of a function. It is printed as a report's line, without the line feed.
 #[derive(Clone, Copy, Debug, PartialEq, Eq)]
 pub struct FunctionLine {
     pub function: u8,

@@ -25,7 +25,7 @@ impl Model for FunctionNumber {
 }
 
 impl FunctionNumber {
-    /// That number; None if no function has it.
+    /// Makes the number of a function, or returns `None` if no function has it.
     pub fn new(number: u8) -> Option<FunctionNumber>
         ensures only_if { IsSome result ↔ (number ≤ LAST_FUNCTION) }
         ensures answer { IfSome result (λ f. f ≡ number) }
@@ -37,7 +37,7 @@ impl FunctionNumber {
         }
     }
 
-    /// The number.
+    /// Returns the number.
     pub fn number(self) -> u8
         ensures answer { result ≡ self }
         ensures bound { self ≤ LAST_FUNCTION }

@@ -9,10 +9,10 @@ ghost use Rattle.txc_script.specs.declared.line_fault.WordKind.TheVariants as ki
 use crate::unread::Unsaid;
 use std::alloc::Global;
 
-/// What stands in [`DIGITS`] for a byte that is no digit.
+/// The entry in [`DIGITS`] of a byte that is not a digit.
 const X: u8 = 16;
 
-/// What each byte stands for as a hexadecimal digit.
+/// The value of each byte as a hexadecimal digit.
 static DIGITS: [u8; 256] = [
     X, X, X, X, X, X, X, X, X, X, X, X, X, X, X, X, X, X, X, X, X, X, X, X, X, X, X, X, X, X, X, X,
     X, X, X, X, X, X, X, X, X, X, X, X, X, X, X, X, 0, 1, 2, 3, 4, 5, 6, 7, 8, 9, X, X, X, X, X, X,
@@ -25,7 +25,8 @@ static DIGITS: [u8; 256] = [
     X, X,
 ];
 
-/// What a hexadecimal digit stands for. It has no branch by the digit's kind, which cannot be foreseen.
+/// Returns the value of a hexadecimal digit. It has no branch by the digit's kind, which the processor could
+/// not predict.
 #[inline(always)]
 fn digit_value(digit: u8) -> Option<u8>
     ensures answer { IfSome result (λ n. (n < 16) × (digit_of n ≡ digit)) }
@@ -38,7 +39,7 @@ fn digit_value(digit: u8) -> Option<u8>
     Some(value)
 }
 
-/// The byte of two digits.
+/// Returns the byte of two digits.
 #[inline(always)]
 fn read_byte(high: u8, low: u8) -> Option<u8>
     ensures answer { IfSome result (λ b. (b < 256) × (digits_of b ≡ high ∷ low ∷ [])) }
@@ -53,7 +54,7 @@ fn read_byte(high: u8, low: u8) -> Option<u8>
     Some(high * 16 + low)
 }
 
-/// The bytes of which the text has the digits.
+/// Returns the bytes of a text of digits, two for each byte.
 fn read_digits(alloc: Global, text: &[u8]) -> Result<Vec<u8>, Unsaid>
     ensures answer { IfOk result (λ v.
         IsBytes v.items × (flat_map digits_of v.items ≡ text.now)) }
@@ -82,7 +83,8 @@ fn read_digits(alloc: Global, text: &[u8]) -> Result<Vec<u8>, Unsaid>
     }
 }
 
-/// The bytes of which the text is the spelling: `-` for none, or two digits for each.
+/// Returns the bytes of a text: `-` for none, or two digits for each. Fails if the text is not of that form, or
+/// if memory cannot be allocated.
 pub fn read_hex(alloc: Global, text: &[u8]) -> Result<Vec<u8>, Unsaid>
     ensures answer { IfOk result (λ v. IsHexWord text.now v.items) }
     ensures refused { IfErr result (IsUnsaid kinds.Bytes text.now) }

@@ -8,23 +8,23 @@ ghost use Rattle.txc_script.specs.Lines.{IsPlain};
 use crate::unread::Unanswered;
 use std::alloc::{AllocError, Global};
 
-/// A kind of script: how a run of one answers its lines. The value is what all lines of a run share.
+/// A kind of script: how a run executes its lines. The value is shared by all lines of a run.
 pub trait Script {
-    /// What the lines find, and what they leave.
+    /// The state that the lines read and change.
     type State;
-    /// What a line asks for.
+    /// The meaning of a line.
     type Asked;
-    /// What a line is replied.
+    /// The reply to a line.
     type Reply;
-    /// What is wrong with lines of this kind alone.
+    /// Faults that only lines of this kind can have.
     type Fault: Drop;
 
-    // What the lines are, what they give, and what comes after them.
+    // The lines, their replies, and the end of a script.
     ghost kind: { Self → ScriptKind Self.State Self.Asked Self.Reply Self.Fault };
 
-    /// Does what a line asks for that is neither empty nor a comment, and puts what is written of the reply
-    /// after the text. Returns whether that holds a refusal. Else it leaves why: of a line that asks for nothing, what
-    /// is wrong with its words. Out of memory, what the line asks for may be done in part.
+    /// Executes a line that is neither empty nor a comment, and appends its reply to the text. Returns whether
+    /// the reply is a refusal. Otherwise returns `None` and sets `why`: the fault of the line's words, or that
+    /// memory cannot be allocated. In the last case the line may be executed in part.
     fn answer(
         &self,
         alloc: Global,
@@ -39,8 +39,8 @@ pub trait Script {
         ensures refused { IfNone result (IsUnanswered (kind self.now) state.old line.now state.new why.new) }
         ensures unchanged { IfNone result (text.new.items ≡ text.old.items) };
 
-    /// Does what comes after all lines, none of which was malformed, and puts what is written of it after the
-    /// text. Returns whether that holds a refusal.
+    /// Does the work after the last line, if no line was malformed, and appends its output to the text. Returns
+    /// whether that has a refusal.
     fn close(
         &self,
         alloc: Global,

@@ -1,4 +1,4 @@
-//! Scripts: lines and their words, what is wrong with a malformed line, and runs of any kind of script.
+//! Scripts: lines and their words, the faults of malformed lines, and runs of any kind of script.
 #![tactic(auto)]
 
 mod excerpt;

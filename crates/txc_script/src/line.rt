@@ -7,14 +7,15 @@ use crate::scan::plain_len;
 /// The most bytes of a line, its line feed not counted.
 pub const MAX_LINE_LEN: usize = 4_096;
 
-/// Whether each byte is one that a script may have.
+/// Returns `true` if a script may have each of the bytes.
 fn are_plain(bytes: &[u8]) -> bool
     ensures { IsTrue result ↔ ArePlain bytes.now }
 {
     plain_len(bytes) == bytes.len()
 }
 
-/// Whether the bytes are few enough, and each is one that a script may have, which may be known of them.
+/// Returns `true` if a line may have these bytes: there are not too many, and a script may have each.
+/// `known_plain` means that the latter is known.
 pub fn is_plain(bytes: &[u8], known_plain: bool) -> bool
     requires { known_plain ≡ true → ArePlain bytes.now }
     ensures { IsTrue result ↔ IsPlain bytes.now }
@@ -25,7 +26,7 @@ pub fn is_plain(bytes: &[u8], known_plain: bool) -> bool
     known_plain || are_plain(bytes)
 }
 
-/// Whether the line is empty or a comment.
+/// Returns `true` if the line is empty or a comment.
 pub fn is_quiet(bytes: &[u8]) -> bool
     ensures { IsTrue result ↔ IsBlankOrComment bytes.now }
 {

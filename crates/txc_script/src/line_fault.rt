@@ -1,11 +1,11 @@
-//! What is wrong with a malformed line.
+//! Faults of malformed lines.
 use crate::excerpt::Excerpt;
 use crate::line::MAX_LINE_LEN;
 use std::fmt;
 use txc_stamp::LAST_STAMP;
 use txc_tags::{LAST_FUNCTION, LAST_NUMBER, LAST_TABLE};
 
-/// What a word has to be.
+/// The kind of a word.
 #[derive(Clone, Copy, Debug, PartialEq, Eq)]
 pub enum WordKind {
     /// A key: `f3(1,2)`.
@@ -24,9 +24,9 @@ pub enum WordKind {
     Id,
     /// The number of a function.
     Function,
-    /// A number of at most so much.
+    /// A number of at most this one.
     Number(u64),
-    /// A text of at most so many bytes, each of which prints.
+    /// A text of at most that many bytes, all printable.
     Text(usize),
     /// The name of a query: `by-id`, `by-group`, `all` or `range`.
     QueryName,
@@ -34,48 +34,48 @@ pub enum WordKind {
     ChangeName,
 }
 
-/// A word that is not of its kind.
+/// Fault of a word that is not of its kind.
 #[derive(Debug, Drop)]
 pub struct WordFault {
     /// Its number among the words after the command, counted from 1.
     pub number: usize,
     pub kind: WordKind,
-    /// Of a key and of tags: how many of its bytes are right, so that the next one is wrong or missing.
+    /// For a key and for tags: the number of valid bytes before the first wrong or missing one.
     pub at: Option<usize>,
     pub text: Excerpt,
 }
 
-/// What is wrong with the words of a line: the first of these.
+/// Fault of the words of a line: the first one.
 #[derive(Debug, Drop)]
 pub enum CommandFault<F> {
     /// There is no command of this name.
     Unknown(Excerpt),
     /// The command has another number of words after it.
     Count {
-        /// How many there are to be.
+        /// The number that the command needs.
         wanted: usize,
-        /// How many there are.
+        /// The number in the line.
         given: usize,
     },
     Word(WordFault),
-    /// What is wrong with lines of this kind of script alone.
+    /// A fault that only lines of this kind of script can have.
     Own(F),
 }
 
-/// What is wrong with a malformed line: the first of these.
+/// Fault of a malformed line: the first one.
 #[derive(Debug, Drop)]
 pub enum LineFault<F> {
     /// It has more than 4,096 bytes.
     TooLong,
     /// A byte outside 0x20 to 0x7E.
     Byte {
-        /// How many bytes stand before it.
+        /// The number of bytes before it.
         at: usize,
         byte: u8,
     },
-    /// A blank stands at an end, or two side by side.
+    /// A blank is at an end, or next to another.
     Blanks,
-    /// It is no command.
+    /// The words are not a command.
     Command(CommandFault<F>),
 }
 

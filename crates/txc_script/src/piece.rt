@@ -1,4 +1,4 @@
-//! Lines of bytes that come piece by piece.
+//! Lines of bytes that arrive in pieces.
 ghost use Rattle.std.specs.Prelude.{◌≡◌, ◌≤◌, [], ◌++◌, ◌∷◌, ◌==◌, true, position, length, take, vec_len, OnOk, IfOk, IfSome, IfNone};
 ghost use Rattle.txc_script.specs.Script.{HasNoEnd};
 ghost use Rattle.txc_script.specs.Lines.{ArePlain};
@@ -8,10 +8,11 @@ use crate::scan::plain_len;
 use std::alloc::{AllocError, Global};
 use std::marker::Model;
 
-/// How much of a line is kept: enough to tell that it is too long.
+/// The number of bytes of a line that are stored: one more than a line may have.
 pub const MAX_KEPT: usize = MAX_LINE_LEN + 1;
 
-/// The bytes before the first line feed, whether a line may have each of them, and the bytes after it.
+/// Returns the bytes before the first line feed, whether a line may have each of them, and the bytes after it.
+/// Returns `None` if there is no line feed.
 pub fn cut_line(bytes: &[u8]) -> Option<(&[u8], bool, &[u8])>
     ensures answer { IfSome result (λ r. (bytes.now ≡ r.0.now ++ 10 ∷ r.2.now) × HasNoEnd r.0.now) }
     ensures plain { IfSome result (λ r. r.1 ≡ true → ArePlain r.0.now) }
@@ -37,7 +38,7 @@ fn line_end(bytes: &[u8]) -> Option<usize>
     bytes.iter().position(|b| *b == b'\n')
 }
 
-/// The line that has not ended yet: as much of it as tells whether it is too long.
+/// The beginning of a line that has not ended: as many bytes as show whether it is too long.
 #[derive(Debug, Drop)]
 pub struct LineStart {
     bytes: Vec<u8>,
@@ -55,7 +56,7 @@ impl Model for LineStart {
 }
 
 impl LineStart {
-    /// No byte of a line; the room of the longest is taken now.
+    /// Makes an empty line, and allocates room for the longest one. Fails only if memory cannot be allocated.
     pub fn new(alloc: Global) -> Result<LineStart, AllocError>
         ensures { IfOk result (λ l. l ≡ []) }
     {
@@ -75,14 +76,14 @@ impl LineStart {
         self.bytes.is_empty()
     }
 
-    /// The line goes on with these bytes.
+    /// Appends bytes to the line, up to the stored length.
     pub fn add(&mut self, bytes: &[u8]) -> Result<(), AllocError>
         ensures { OnOk result (self.new ≡ take MAX_KEPT (self.old ++ bytes.now)) }
     {
         add_to_line(&mut self.bytes, bytes)
     }
 
-    /// The next line begins.
+    /// Begins the next line.
     pub fn clear(&mut self)
         ensures { self.new ≡ [] }
     {
@@ -90,7 +91,7 @@ impl LineStart {
     }
 }
 
-/// Adds bytes to what is kept of a line.
+/// Appends bytes to the stored beginning of a line, up to the stored length.
 fn add_to_line(line: &mut Vec<u8>, bytes: &[u8]) -> Result<(), AllocError>
     requires { vec_len line.old ≤ MAX_KEPT }
     ensures after { OnOk result (line.new.items ≡ take MAX_KEPT (line.old.items ++ bytes.now)) }

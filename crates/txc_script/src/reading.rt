@@ -1,4 +1,4 @@
-//! Reading what the words of a line say.
+//! Reading the words of a line.
 ghost use Rattle.std.specs.Prelude.{◌≡◌, IfOk, IfErr, length};
 ghost use Rattle.txc_script.specs.LineFaults.{kinds_for, IsKindsFault, IsWrong};
 ghost use Rattle.txc_script.specs.SaidWords.{SayAll};
@@ -12,8 +12,8 @@ use crate::unread::{Unanswered, Unsaid};
 use crate::words::WordsLeft;
 use std::alloc::Global;
 
-/// What the words say, of which there are so many, each by its kind; or the first that is not of its kind. The kinds are
-/// these, and then the other one.
+/// Returns the meanings of the `count` words, each of its kind, or the fault of the first that is not of its
+/// kind. The kinds are these, and then the other one for each further word.
 pub fn read_each<'a, F>(
     alloc: Global,
     kinds: &[WordKind],
@@ -50,7 +50,7 @@ pub fn read_each<'a, F>(
     Ok(said)
 }
 
-/// What the words say, of which there are so many, each by its kind; or what is wrong with them.
+/// Returns the meanings of the `count` words, each of its kind, or the fault of the words.
 pub fn read_words<'a, F>(
     alloc: Global,
     kinds: &[WordKind],

@@ -1,4 +1,4 @@
-//! Reads of a reader, which are counted.
+//! Counted reads of a reader.
 ghost use Rattle.std.specs.Prelude.{◌≡◌, ◌<◌, ◌≤◌, None, OnOk, OnErr, Err, IfOk, length};
 ghost use Rattle.std.specs.Io.KnownBytes.{ReadConsumes};
 ghost use Rattle.txc_script.specs.Reads.{IsOver};
@@ -6,20 +6,20 @@ ghost use Rattle.txc_script.specs.Reads.{IsOver};
 use crate::fault::RunFault;
 use std::io::{ErrorKind, Read};
 
-/// How often a reader is read at most.
+/// The most times that a run reads its reader.
 pub const MAX_READS: u64 = 1_048_576;
 
-/// What a run knows of its reader.
+/// State of a run's reader.
 #[derive(Clone, Copy)]
 pub struct Reads {
-    /// How often it may still be read.
+    /// The number of reads that are left.
     left: u64,
-    /// How it failed, if it did.
+    /// The error of the read that failed, if one did.
     failure: Option<ErrorKind>,
 }
 
 impl Reads {
-    /// No read was made.
+    /// Makes the state before the first read.
     pub fn new() -> Reads
         ensures { result ≡ record { left = 1048576; failure = None } }
     {
@@ -29,7 +29,8 @@ impl Reads {
         }
     }
 
-    /// Reads a piece. A read that was interrupted is made again, and counts as one more.
+    /// Reads a piece. An interrupted read is repeated, and counts as one more. Fails with `Read` if the reader
+    /// fails.
     pub fn read<R: Read>(&mut self, reader: &mut R, piece: &mut [u8]) -> Result<usize, RunFault>
         ensures bound { IfOk result (λ n. n ≤ length piece.new) }
         ensures bytes { ReadConsumes (R.remaining reader.old) (R.remaining reader.new) result piece.new }

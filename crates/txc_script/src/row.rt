@@ -1,4 +1,4 @@
-//! Reading the words after a command, each as what it says.
+//! Reading the words after a command, each with its meaning.
 ghost use Rattle.std.specs.Prelude.{◌≡◌, ◌<◌, ◌+◌, ◌^◌, ℕ, List, ◌∷◌, length, IfSome, IfNone, true};
 ghost use Rattle.std.specs.List.{list_any};
 ghost use Rattle.txc_script.specs.LineFaults.{takes_memory, IsKindsFault, IsUnsaid, IsWrong};
@@ -13,21 +13,22 @@ use crate::word::Word;
 use crate::words::WordsLeft;
 use std::alloc::Global;
 
-/// What words say, one after the other: a pair of the first one and of the others, or nothing.
+/// The meanings of words: a pair of the first word's and of the others', or nothing.
 pub trait Row: Drop {
     // Their kinds.
     ghost kinds: { List WordKind };
 
-    // What each of them says.
+    // The meaning of each.
     ghost said: { Self → AllSaidOf kinds };
 
-    /// How many words that is.
+    /// Returns how many words that is.
     fn count() -> usize
         requires { length kinds < 2 ^ 64 }
         ensures { result ≡ length kinds };
 
-    /// What the words say, if there are as many and each is of its kind. Else, where there are as many, it leaves what is
-    /// wrong. That is large, so no answer has room for it.
+    /// Returns the meanings if there are as many words as kinds and each is of its kind. Otherwise returns
+    /// `None`, and sets `why` to the fault if there are as many words. The fault is large, so a result has no
+    /// room for it.
     fn read<F: Drop>(alloc: Global, words: WordsLeft<'_>, why: &mut Unanswered<F>) -> Option<Self>
         ensures answer { IfSome result (λ row. Mean kinds (words_left words.entry) (said row)) }
         ensures refused { IfNone result (length (words_left words.entry) ≡ length kinds
@@ -93,7 +94,7 @@ impl<A: Word, B: Row> Row for (A, B) {
     }
 }
 
-/// Leaves that the first word is of another kind.
+/// Sets the fault: the first word is of another kind.
 #[cold]
 #[inline(never)]
 fn leave_first<A: Word, F: Drop>(word: &[u8], unsaid: Unsaid, why: &mut Unanswered<F>)
@@ -115,7 +116,7 @@ fn leave_first<A: Word, F: Drop>(word: &[u8], unsaid: Unsaid, why: &mut Unanswer
     }
 }
 
-/// Leaves what is wrong with words, where a good one stands before them.
+/// Changes the fault of words to that of the same words after a valid one.
 #[cold]
 #[inline(never)]
 fn one_later<F>(why: &mut Unanswered<F>)
@@ -133,7 +134,7 @@ fn one_later<F>(why: &mut Unanswered<F>)
     }
 }
 
-/// Leaves that there are more words than wanted, or fewer, if there are.
+/// Sets the fault if there are more words than wanted, or fewer.
 #[cold]
 #[inline(never)]
 fn test_count<F: Drop>(wanted: usize, words: WordsLeft<'_>, why: &mut Unanswered<F>)
@@ -149,8 +150,8 @@ fn test_count<F: Drop>(wanted: usize, words: WordsLeft<'_>, why: &mut Unanswered
     }
 }
 
-/// What the words after a command say; else it leaves what is wrong with them. That it is out of memory it leaves only
-/// where there are as many words as kinds, and what one of them says takes memory.
+/// Returns the meanings of the words after a command, or sets `why` to their fault. It reports a failed
+/// allocation only if there are as many words as kinds, and a word's kind needs memory.
 #[inline(always)]
 pub fn read_row<R: Row, F: Drop>(
     alloc: Global,

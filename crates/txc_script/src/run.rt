@@ -11,10 +11,10 @@ use crate::running::{Flow, Running};
 use std::alloc::Global;
 use std::io::{Read, Write};
 
-/// How many bytes a read is asked for.
+/// The number of bytes of a read.
 const PIECE_LEN: usize = 16_384;
 
-/// Answers the lines that end in the bytes of a read, and writes the replies.
+/// Executes the lines that end in the bytes of a read, and writes the replies.
 fn turn<K: Script, W: Write>(
     alloc: Global,
     kind: &K,
@@ -41,7 +41,7 @@ fn turn<K: Script, W: Write>(
     }
 }
 
-/// Answers the last line, does what comes after all lines, and writes the replies.
+/// Executes the last line, does the work after all lines, and writes the replies.
 fn finish<K: Script, W: Write>(
     alloc: Global,
     kind: &K,
@@ -66,8 +66,7 @@ fn finish<K: Script, W: Write>(
     }
 }
 
-/// Answers the lines of a script. A fault of the reader comes only where no read is left or the reader
-/// failed.
+/// Executes the lines of a script. It fails as a read fault only if no read is left or the reader failed.
 fn answer_script<K: Script, R: Read, W: Write>(
     alloc: Global,
     kind: &K,
@@ -98,7 +97,7 @@ fn answer_script<K: Script, R: Read, W: Write>(
     }
 }
 
-/// Flushes the writer at the end of a run. A fault of the run stays the one that is reported.
+/// Flushes the writer at the end of a run. If the run failed, that error is reported.
 fn flush<F: Drop, W: Write>(
     writer: &mut W,
     ended: Result<Status<F>, RunFault>,
@@ -113,10 +112,9 @@ fn flush<F: Drop, W: Write>(
     }
 }
 
-/// Reads a script of a kind, and writes the replies to its lines. The status says what is wrong with a
-/// malformed line. A reader is read at most [`crate::MAX_READS`] times, where a read that was interrupted counts
-/// and is made again. One that has not reached its end by then is a read fault. The writer is flushed at the
-/// end.
+/// Reads a script of a kind, and writes the replies to its lines. The status has the fault of a malformed line.
+/// It reads the reader at most [`crate::MAX_READS`] times, where an interrupted read counts and is repeated; if
+/// it has not reached the end by then, that is a read fault. It flushes the writer at the end.
 pub fn run_script<K: Script, R: Read, W: Write>(
     alloc: Global,
     kind: &K,

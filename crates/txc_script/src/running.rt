@@ -1,4 +1,4 @@
-//! A run in progress: lines are answered one after another.
+//! A run in progress: lines are executed one after another.
 ghost use Rattle.std.specs.Prelude.{◌≡◌, true, false, ℕ, ◌+◌, ◌^◌, ◌<◌, ◌≤◌, List, [], ◌∷◌, ◌++◌, length, take, Err, IfOk, OnOk, OnErr};
 ghost use Rattle.std.specs.Io.KnownBytes.{Appends};
 ghost use Rattle.txc_script.specs.Script.{HasNoEnd};
@@ -23,7 +23,7 @@ use std::alloc::{AllocError, Global};
 use std::io::Write;
 use std::mem;
 
-/// Whether a run goes on after a line.
+/// Continuation of a run after a line.
 #[derive(Debug, Drop)]
 pub enum Flow<F> {
     /// The next line is read.
@@ -35,25 +35,26 @@ pub enum Flow<F> {
 /// The replies so far.
 #[derive(Drop)]
 pub struct Replies<F> {
-    /// What is not written yet.
+    /// The text that is not written yet.
     text: Vec<u8>,
-    /// Whether one of them holds a refusal, or a line was malformed.
+    /// `true` if a reply is a refusal, or a line was malformed.
     is_refused: bool,
-    /// Why a line has none, if one has none. It stands here since it is large: a line that is answered makes no room for it.
+    /// The fault of a line without a reply. It is stored here since it is large: a line with a reply makes no
+    /// room for it.
     why: Unanswered<F>,
 }
 
-/// A run in progress, beside its state.
+/// A run in progress, without its state.
 #[derive(Drop)]
 pub struct Running<F> {
-    /// How many lines were read.
+    /// The number of lines that were read.
     lines: u64,
     /// The line that has not ended.
     line: LineStart,
     replies: Replies<F>,
 }
 
-/// Puts the reply to a malformed line, which has this number, at the end.
+/// Appends the reply to the malformed line of this number.
 fn reply_malformed<F>(
     alloc: Global,
     replies: &mut Replies<F>,
@@ -69,7 +70,7 @@ fn reply_malformed<F>(
     Ok(())
 }
 
-/// Answers a line with which this is wrong in this state, and which has this number.
+/// Replies to the line of this number, which has this fault in this state.
 fn answer_malformed<K: Script>(
     alloc: Global,
     kind: &K,
@@ -89,7 +90,7 @@ fn answer_malformed<K: Script>(
     Ok(Flow::Stopped(MalformedLine { number, fault }))
 }
 
-/// Answers a line whose bytes are not as they may be.
+/// Replies to a line whose bytes are not allowed.
 #[cold]
 #[inline(never)]
 fn answer_bad_bytes<K: Script>(
@@ -110,7 +111,7 @@ fn answer_bad_bytes<K: Script>(
     answer_malformed(alloc, kind, state, replies, number, line, fault)
 }
 
-/// Answers a line that has no reply: why stands beside the replies. Where a growth was refused that is the answer.
+/// Replies to a line without a reply, whose fault is stored. Fails if that is a failed allocation.
 #[cold]
 #[inline(never)]
 fn answer_unanswered<K: Script>(
@@ -138,7 +139,7 @@ fn answer_unanswered<K: Script>(
     }
 }
 
-/// Answers a line that has this number. Of its bytes it may be known that a line may have each.
+/// Executes the line of this number. `known_plain` means that a line may have each of its bytes.
 fn answer<K: Script>(
     alloc: Global,
     kind: &K,
@@ -170,7 +171,7 @@ fn answer<K: Script>(
 }
 
 impl<F: Drop> Running<F> {
-    /// No line was read.
+    /// Makes a run that has read no line. Fails only if memory cannot be allocated.
     pub fn new(alloc: Global) -> Result<Running<F>, AllocError>
         ensures no_line { IfOk result (λ r. r.lines ≡ 0) }
         ensures nothing_kept { IfOk result (λ r. r.line ≡ []) }
@@ -190,7 +191,7 @@ impl<F: Drop> Running<F> {
         })
     }
 
-    /// The status of a run that ends so.
+    /// Returns the status of a run with this end.
     pub fn status(&self, end: Flow<F>) -> Status<F>
         ensures { result ≡ status_after self.now.replies.is_refused end }
     {
@@ -204,7 +205,7 @@ impl<F: Drop> Running<F> {
         }
     }
 
-    /// Answers a line.
+    /// Executes a line.
     fn answer_line<K: Script<Fault = F>>(
         &mut self,
         alloc: Global,
@@ -234,7 +235,7 @@ impl<F: Drop> Running<F> {
         )
     }
 
-    /// Answers the line that is kept.
+    /// Executes the stored line.
     fn answer_kept<K: Script<Fault = F>>(
         &mut self,
         alloc: Global,
@@ -264,7 +265,7 @@ impl<F: Drop> Running<F> {
         answered
     }
 
-    /// Answers the line that ends after these bytes. One that lies whole in them is not copied.
+    /// Executes the line that ends after these bytes. A line that is in them as a whole is not copied.
     fn end_line<K: Script<Fault = F>>(
         &mut self,
         alloc: Global,
@@ -291,7 +292,7 @@ impl<F: Drop> Running<F> {
         }
     }
 
-    /// A line goes on with these bytes.
+    /// Appends these bytes to the line that has not ended.
     fn extend_line(&mut self, rest: &[u8]) -> Result<Flow<F>, AllocError>
         ensures goes_on { IfOk result (λ flow. flow ≡ Flow.GoesOn) }
         ensures line { OnOk result (self.new.line ≡ take MAX_KEPT (self.old.line ++ rest.now)) }
@@ -304,7 +305,7 @@ impl<F: Drop> Running<F> {
         }
     }
 
-    /// Answers the lines that end in these bytes.
+    /// Executes the lines that end in these bytes.
     pub fn answer_lines<K: Script<Fault = F>>(
         &mut self,
         alloc: Global,
@@ -334,7 +335,7 @@ impl<F: Drop> Running<F> {
         }
     }
 
-    /// Answers the last line, if its line feed is missing.
+    /// Executes the last line, if its line feed is missing.
     fn answer_last<K: Script<Fault = F>>(
         &mut self,
         alloc: Global,
@@ -352,7 +353,7 @@ impl<F: Drop> Running<F> {
         self.answer_kept(alloc, kind, state)
     }
 
-    /// Does what comes after all lines.
+    /// Does the work after all lines.
     fn close<K: Script<Fault = F>>(
         &mut self,
         alloc: Global,
@@ -372,7 +373,7 @@ impl<F: Drop> Running<F> {
         }
     }
 
-    /// Answers the last line, if its line feed is missing, and does what comes after all lines.
+    /// Executes the last line, if its line feed is missing, and does the work after all lines.
     pub fn finish<K: Script<Fault = F>>(
         &mut self,
         alloc: Global,
@@ -391,7 +392,8 @@ impl<F: Drop> Running<F> {
         }
     }
 
-    /// Writes the replies that are not written yet.
+    /// Writes the replies that are not written yet. Fails with `Write` if the writer fails, after a prefix of
+    /// them.
     pub fn write_out<W: Write>(&mut self, writer: &mut W) -> Result<(), RunFault>
         ensures after { OnOk result (Appends (W.contents writer.old) (W.contents writer.new)
             self.old.replies.text.items) }

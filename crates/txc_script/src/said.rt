@@ -1,4 +1,4 @@
-//! What words say.
+//! Meanings of words.
 ghost use Rattle.std.specs.Prelude.{◌≡◌};
 
 use crate::function_number::FunctionNumber;
@@ -6,7 +6,7 @@ use std::marker::Model;
 use txc_stamp::Stamp;
 use txc_tags::{Key, Table};
 
-/// A word as it stands; a contract sees its bytes.
+/// A word without interpretation; a contract sees its bytes.
 #[derive(Debug, Drop)]
 pub struct TextWord<'a> {
     bytes: &'a [u8],
@@ -50,7 +50,7 @@ pub enum ChangeName {
     Remove,
 }
 
-/// What a word says, by its kind.
+/// The meaning of a word, by its kind.
 #[derive(Debug, Drop)]
 pub enum Said<'a> {
     Key(Key),
@@ -63,6 +63,6 @@ pub enum Said<'a> {
     Text(TextWord<'a>),
     Query(QueryName),
     Change(ChangeName),
-    /// It is of a kind that is read elsewhere.
+    /// The word is of a kind that is read elsewhere.
     Other,
 }

@@ -7,7 +7,7 @@ ghost use Rattle.txc_script.specs.Words.{HasNoBlank, is_blank};
 
 use std::simd::prelude::*;
 
-/// How many of the sixteen bytes from this place on stand before the first that is below 0x20.
+/// Returns how many of the sixteen bytes from this place on precede the first one below 0x20.
 #[inline(always)]
 fn before_low(bytes: &[u8], at: usize) -> usize
     requires { at + 16 ≤ length bytes.now }
@@ -23,7 +23,7 @@ fn before_low(bytes: &[u8], at: usize) -> usize
     }
 }
 
-/// How many of the sixteen bytes from this place on stand before the first that is above 0x7E.
+/// Returns how many of the sixteen bytes from this place on precede the first one above 0x7E.
 #[inline(always)]
 fn before_high(bytes: &[u8], at: usize) -> usize
     requires { at + 16 ≤ length bytes.now }
@@ -39,7 +39,7 @@ fn before_high(bytes: &[u8], at: usize) -> usize
     }
 }
 
-/// How many of the sixteen bytes from this place on stand before the first blank.
+/// Returns how many of the sixteen bytes from this place on precede the first blank.
 #[inline(always)]
 fn before_blank(bytes: &[u8], at: usize) -> usize
     requires { at + 16 ≤ length bytes.now }
@@ -55,7 +55,7 @@ fn before_blank(bytes: &[u8], at: usize) -> usize
     }
 }
 
-/// How many of the eight bytes from this place on stand before the first blank.
+/// Returns how many of the eight bytes from this place on precede the first blank.
 #[inline(always)]
 fn before_blank_of_eight(bytes: &[u8], at: usize) -> usize
     requires { at + 8 ≤ length bytes.now }
@@ -71,7 +71,7 @@ fn before_blank_of_eight(bytes: &[u8], at: usize) -> usize
     }
 }
 
-/// Whether no line may have the byte.
+/// Returns `true` if no line may have the byte.
 #[inline(always)]
 fn is_foreign(byte: u8) -> bool
     ensures { result ≡ is_foreign byte }
@@ -79,7 +79,7 @@ fn is_foreign(byte: u8) -> bool
     byte < 0x20 || byte > 0x7e
 }
 
-/// How many bytes stand before the first that no line may have; a line feed is one too.
+/// Returns how many bytes precede the first one that no line may have, such as a line feed.
 pub fn plain_len(bytes: &[u8]) -> usize
     ensures bound { result ≤ length bytes.now }
     ensures plain { All (λ b. is_foreign b ≡ false) (take result bytes.now) }
@@ -102,7 +102,7 @@ pub fn plain_len(bytes: &[u8]) -> usize
     at
 }
 
-/// How many bytes stand before the first blank, counted one by one from this place on.
+/// Returns how many bytes precede the first blank, counted one by one from this place on.
 #[inline(always)]
 fn word_len_from(bytes: &[u8], from: usize) -> usize
     requires within { from ≤ length bytes.now }
@@ -121,7 +121,7 @@ fn word_len_from(bytes: &[u8], from: usize) -> usize
     at
 }
 
-/// How many bytes stand before the first blank.
+/// Returns how many bytes precede the first blank.
 pub fn word_len(bytes: &[u8]) -> usize
     ensures bound { result ≤ length bytes.now }
     ensures bare { HasNoBlank (take result bytes.now) }

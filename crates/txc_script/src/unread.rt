@@ -1,22 +1,22 @@
-//! Why nothing was read.
+//! Errors of reading words.
 use crate::line_fault::CommandFault;
 use std::alloc::AllocError;
 
-/// Why a word says nothing of its kind.
+/// Errors of reading a word of its kind.
 #[derive(Debug, Drop)]
 pub enum Unsaid {
-    /// It is of another; where a key or tags go wrong.
+    /// The word is of another kind. For a key or tags it has the place where these go wrong.
     Bad(Option<usize>),
-    /// A growth was refused.
+    /// Memory cannot be allocated.
     Memory,
 }
 
-/// Why a line was not answered.
+/// Errors of executing a line.
 #[derive(Debug, Drop)]
 pub enum Unanswered<F> {
-    /// It asks for nothing: this is wrong with its words.
+    /// The words have this fault.
     Wrong(CommandFault<F>),
-    /// A growth was refused.
+    /// Memory cannot be allocated.
     Memory,
 }
 

@@ -16,19 +16,19 @@ use std::alloc::Global;
 use txc_stamp::{LAST_STAMP, Stamp};
 use txc_tags::{Key, LAST_FUNCTION, LAST_NUMBER, LAST_TABLE, SetError, Table, TagSet, read_number};
 
-/// What a word of one kind says.
+/// The meaning of a word of one kind.
 pub trait Word: Drop {
     // The kind.
     ghost kind: { WordKind };
 
-    // What is said.
+    // The meaning.
     ghost said: { Self → SaidOf kind };
 
-    /// The kind.
+    /// Returns the kind.
     fn kind() -> WordKind
         ensures { result ≡ kind };
 
-    /// What the word says, if it is of the kind.
+    /// Returns the meaning of the word. Fails if it is not of the kind, or if memory cannot be allocated.
     fn read(alloc: Global, word: &[u8]) -> Result<Self, Unsaid>
         ensures answer { IfOk result (λ value. Means kind word.now (said value)) }
         ensures refused { IfErr result (IsUnsaid kind word.now) }
@@ -137,7 +137,7 @@ impl Word for Vec<u8> {
     }
 }
 
-/// An id or a group.
+/// Reads an id or a group.
 pub fn read_id(word: &[u8]) -> Option<u32>
     ensures answer { IfSome result (IsNumberWord LAST_NUMBER word.now) }
     ensures refused { IfNone result ((n : ℕ) → IsNumberWord LAST_NUMBER word.now n → ⊥) }
@@ -148,7 +148,7 @@ pub fn read_id(word: &[u8]) -> Option<u32>
     }
 }
 
-/// The number of a table.
+/// Reads the number of a table.
 pub fn read_table(word: &[u8]) -> Option<Table>
     ensures answer { IfSome result (IsNumberWord LAST_TABLE word.now) }
     ensures refused { IfNone result ((n : ℕ) → IsNumberWord LAST_TABLE word.now n → ⊥) }
@@ -159,7 +159,7 @@ pub fn read_table(word: &[u8]) -> Option<Table>
     }
 }
 
-/// The number of a function.
+/// Reads the number of a function.
 pub fn read_function(word: &[u8]) -> Option<FunctionNumber>
     ensures answer { IfSome result (IsNumberWord LAST_FUNCTION word.now) }
     ensures refused { IfNone result ((n : ℕ) → IsNumberWord LAST_FUNCTION word.now n → ⊥) }

@@ -4,7 +4,7 @@ ghost use Rattle.txc_script.specs.Words.{HasNoBlank, words_of, words_left, is_bl
 
 use crate::scan::word_len;
 
-/// The word before the first blank, which stands here, and what comes after that blank.
+/// Returns the word before the first blank, which is at `end`, and the text after that blank.
 #[inline(always)]
 fn cut_word(text: &[u8], end: usize) -> (&[u8], &[u8])
     requires within { end < length text.now }
@@ -21,14 +21,14 @@ fn count_blanks(text: &[u8]) -> usize
     text.iter().filter(|b| **b == b' ').count()
 }
 
-/// Words of a text that were not taken yet: as many as there are, but no more than a number.
+/// The words of a text that were not taken yet, and their number.
 #[derive(Clone, Copy, Debug)]
 pub struct WordsLeft<'a> {
     rest: &'a [u8],
     count: usize,
 }
 
-/// How many words a text has.
+/// Returns how many words a text has.
 pub fn count_words(text: &[u8]) -> usize
     ensures count { result ≡ length (words_of text.now) }
     ensures some { 0 < result }
@@ -36,7 +36,7 @@ pub fn count_words(text: &[u8]) -> usize
     count_blanks(text) + 1
 }
 
-/// The words of a text.
+/// Returns the words of a text.
 pub fn all_words(text: &[u8]) -> WordsLeft<'_>
     ensures { words_left result ≡ words_of text.now }
 {
@@ -47,7 +47,7 @@ pub fn all_words(text: &[u8]) -> WordsLeft<'_>
 }
 
 impl<'a> WordsLeft<'a> {
-    /// The first of the words, so many of them.
+    /// Returns the first `count` of the words.
     pub fn first(self, count: usize) -> WordsLeft<'a>
         requires { count ≤ length (words_left self) }
         ensures { words_left result ≡ take count (words_left self.entry) }
@@ -58,14 +58,14 @@ impl<'a> WordsLeft<'a> {
         }
     }
 
-    /// How many there are.
+    /// Returns how many words there are.
     pub fn len(self) -> usize
         ensures { result ≡ length (words_left self.entry) }
     {
         self.count.min(count_words(self.rest))
     }
 
-    /// The next word, if there is one.
+    /// Takes the next word, if there is one.
     #[inline(always)]
     pub fn pop(&mut self) -> Option<&'a [u8]>
         ensures answer { IfSome result (λ word. words_left self.old ≡ word.now ∷ words_left self.new) }
@@ -77,7 +77,7 @@ impl<'a> WordsLeft<'a> {
         Some(self.next())
     }
 
-    /// The next word.
+    /// Takes the next word.
     #[inline(always)]
     pub fn next(&mut self) -> &'a [u8]
         requires { 0 < length (words_left self.old) }

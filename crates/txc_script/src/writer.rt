@@ -6,7 +6,7 @@ ghost use Rattle.txc_script.specs.Written.{AppendsPrefix};
 use crate::fault::RunFault;
 use std::io::Write;
 
-/// Writes a text. Where the writer fails, a prefix of it was written.
+/// Writes a text. If the writer fails, a prefix of it was written.
 pub fn write_text<W: Write>(writer: &mut W, text: &[u8]) -> Result<(), RunFault>
     ensures after { OnOk result (Appends (W.contents writer.old) (W.contents writer.new) text.now) }
     ensures prefix { OnErr result

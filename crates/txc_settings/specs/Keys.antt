@@ -1,4 +1,4 @@
--- The keys of the settings: their ranges, and what a document says of them.
+-- The keys of the settings, their ranges, and their values in a document.
 use Rattle.std.specs.Prelude.{◌≡◌, ℕ, pos, Bool, false, ◌&&◌, nat_le, List, Option, Some, None, if◌then◌else◌, codes, unwrap_or, option_and_then}
 use Rattle.std.specs.Cmp.Lexicographic.{slice_cmp}
 use Rattle.std.specs.Ordering.{is_lt, nat_cmp}
@@ -42,6 +42,6 @@ IsLeastFault document key =
     (other : List ℕ) (value : Data) → get_member other document ≡ Some value → is_allowed other value ≡ false
     → is_lt (slice_cmp nat_cmp other key) ≡ false
 
--- the number that a document gives a key, or the default where it does not have the key
+-- the number of a key in a document, or the default if the document lacks the key
 abbrev pub setting : Members → List ℕ → ℕ → ℕ
 setting document key default = unwrap_or (option_and_then natural_of (get_member key document)) default

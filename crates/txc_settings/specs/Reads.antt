@@ -1,4 +1,4 @@
--- What settings a text gives.
+-- The settings of a text.
 use Rattle.std.specs.Prelude.{◌≡◌, ℕ, List, Some, None, codes, string_bytes}
 use Rattle.toml.specs.Data.{Members}
 use Rattle.toml.specs.Parse.{parse_document}
@@ -7,7 +7,7 @@ use Rattle.txc_settings.specs.declared.settings.Settings.{Settings}
 use Rattle.txc_settings.specs.declared.error.SettingsError.{SettingsError}
 use Rattle.txc_settings.specs.declared.error.SettingsError.TheVariants.{Key, NotToml, Memory}
 
--- each setting is what the document gives its key, or its default
+-- each setting is the value of its key in the document, or its default
 pub record AreSettingsOf (document : Members) (s : Settings) : Type 0 where
   pub capacity : s.capacity ≡ setting document (codes "capacity") 1024
   pub nodes : s.nodes ≡ setting document (codes "nodes") 1
@@ -23,8 +23,8 @@ AreSettingsIn text s =
     (document : Members) × (parse_document text ≡ Some document) × (first_fault document ≡ None)
     × AreSettingsOf document s
 
--- the text is a document, and this is the least of its keys that are not allowed; or it is no document; a
--- growth may be refused
+-- the text is a document, and this is the least of its keys that are not allowed; or the text is not a
+-- document; or there is no memory
 abbrev pub IsSettingsRefusal : List ℕ → SettingsError → Type 0
 IsSettingsRefusal text (Key key) =
     (document : Members) × (parse_document text ≡ Some document)

@@ -1,18 +1,18 @@
-//! Why a text gives no settings.
+//! Errors of reading settings.
 use std::fmt;
 use thiserror::Error;
 
-/// Why a text gives no settings.
+/// Errors of reading settings.
 #[derive(Debug, Drop, Error)]
 pub enum SettingsError {
-    /// This key is no setting's, or its value is not an integer, or not one in its range. Of several such
-    /// keys it is the first in byte order. It is printed on one line, its control characters escaped.
+    /// The key is not a setting's, or its value is not an integer in its range. If there are several such keys,
+    /// it is the first in byte order. It is printed on one line, with its control characters escaped.
     #[error("settings: {}", OneLine(.0.as_str()))]
     Key(String),
     /// The text is not a TOML document.
     #[error("settings: not TOML")]
     NotToml,
-    /// A growth was refused.
+    /// Memory cannot be allocated.
     #[error("memory")]
     Memory,
 }

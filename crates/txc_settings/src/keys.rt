@@ -7,7 +7,7 @@ use crate::limits::{MAX_NODES, MAX_PERMITS, MAX_RENEW_AFTER, MAX_ROW_CAP, MAX_WO
 use toml::{Table, Value};
 use txc_node::{MAX_CAPACITY, MAX_RECENT};
 
-/// The least and the greatest value of a key.
+/// Returns the least and the greatest value of a key, or `None` if it is not a setting's.
 fn range_of(key: &str) -> Option<(u64, u64)>
     ensures { result ≡ range_of key.now }
 {
@@ -23,7 +23,7 @@ fn range_of(key: &str) -> Option<(u64, u64)>
     }
 }
 
-/// The number of an integer from 0 on.
+/// Returns the number of a non-negative integer.
 fn natural_of(value: &Value) -> Option<u64>
     ensures { result ≡ natural_of (view value.now) }
 {
@@ -33,7 +33,7 @@ fn natural_of(value: &Value) -> Option<u64>
     }
 }
 
-/// Whether the key is a setting's, and its value an integer in its range.
+/// Returns `true` if the key is a setting's, and its value an integer in its range.
 fn is_allowed(key: &str, value: &Value) -> bool
     ensures { result ≡ is_allowed key.now (view value.now) }
 {
@@ -43,7 +43,7 @@ fn is_allowed(key: &str, value: &Value) -> bool
     }
 }
 
-/// The first key that is not allowed, in the order of the table.
+/// Returns the first key that is not allowed, in the order of the table.
 fn first_in_order(table: &Table) -> Option<&str>
     ensures { option_map (λ key. key.now) result ≡ first_fault (table_view table.now) }
 {
@@ -55,7 +55,7 @@ fn first_in_order(table: &Table) -> Option<&str>
     None // every key is allowed
 }
 
-/// The first key that is not allowed, in byte order.
+/// Returns the first key that is not allowed, in byte order.
 pub fn first_fault(table: &Table) -> Option<&str>
     ensures answer { option_map (λ key. key.now) result ≡ first_fault (table_view table.now) }
     ensures least { IfSome result (λ key. IsLeastFault (table_view table.now) key.now) }
@@ -64,7 +64,7 @@ pub fn first_fault(table: &Table) -> Option<&str>
     first_in_order(table)
 }
 
-/// The number that a table gives a key, or else the default.
+/// Returns the number of a key in a table, or the default if the table does not have the key.
 fn number_at(table: &Table, key: &str, default: u64) -> u64
     ensures { result ≡ setting (table_view table.now) key.now default }
 {
@@ -77,7 +77,8 @@ fn number_at(table: &Table, key: &str, default: u64) -> u64
     }
 }
 
-/// The number that a table whose keys are allowed gives a key, or else the default.
+/// Returns the number of a key in a table whose keys are allowed, or the default if the table does not have the
+/// key.
 pub fn setting(table: &Table, key: &str, default: u64) -> u64
     requires { first_fault (table_view table.now) ≡ None }
     ensures answer { result ≡ setting (table_view table.now) key.now default }

@@ -1,11 +1,10 @@
-//! What a run is set to: its mode, and its settings, which are read from a TOML document.
+//! The mode of a run, and its settings, which are read from a TOML document.
 #![tactic(auto)]
 
 mod error;
 mod keys;
 mod limits;
 mod mode;
-mod read;
 mod script;
 mod settings;
 

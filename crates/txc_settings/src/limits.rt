@@ -1,4 +1,4 @@
-//! How great settings may be.
+//! Limits of settings.
 
 /// The most nodes.
 pub const MAX_NODES: usize = 64;

@@ -1,10 +1,10 @@
 //! Modes of a run.
 
-/// Which lines a script has, and what a run writes of them.
+/// The mode of a script of one node: the lines that it has, and the output of a run.
 #[derive(Clone, Copy, Debug, PartialEq, Eq)]
 pub enum Mode {
     /// The steps of one node: `insert`, `lookup`, `event` and `sweep`. Each reply is written.
     Node,
-    /// The same lines. Counts of the replies are written at the end, in their place.
+    /// The same lines. Counts of the replies are written at the end, instead of the replies.
     Report,
 }

@@ -1,7 +1,7 @@
 //! Kinds of scripts.
 use crate::mode::Mode;
 
-/// What a script is of.
+/// The kind of a script.
 #[derive(Clone, Copy, Debug, PartialEq, Eq)]
 pub enum Script {
     /// One node, in this mode.

@@ -1,4 +1,4 @@
--- The codes of refusals.
+-- The codes of errors.
 use Rattle.std.specs.Prelude.{ℕ, List, codes}
 use Rattle.txc_shared.specs.declared.error.NodeError.{NodeError}
 use Rattle.txc_shared.specs.declared.error.NodeError.TheVariants as nodes

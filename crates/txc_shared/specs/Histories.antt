@@ -23,12 +23,12 @@ IsOfHistory L (Insert e) = Unit {0}
 IsOfHistory L (Sweep horizon) = Unit {0}
 IsOfHistory L (Trim most) = Unit {0}
 
--- how many of the records a pass made
+-- the number of the records that a pass made
 abbrev pub records_of : ℕ → List Record → ℕ
 records_of pass rs = count_by (λ (r : Record). r.pass == pass) rs
 
--- The record may follow those before it: the cache that they leave does not refuse its step, and replies
--- so; its event is the history's; and its turn is the number of records that its pass made before.
+-- The record may follow those before it: its step does not fail in the cache that they leave, and has that
+-- reply; its event is the history's; and its turn is the number of records that its pass made before.
 pub record IsNext (L : History) (start : Cache) (before : List Record) (r : Record) : Type 0 where
   pub possible : refusal_of MOST_VALUE_LEN (cache_after start before) r.op ≡ None
   pub reply : r.reply ≡ step_reply (cache_after start before) r.op
@@ -47,7 +47,7 @@ is_event (Insert e) = false
 is_event (Sweep horizon) = false
 is_event (Trim most) = false
 
--- how many of the records take an event
+-- the number of the records that take an event
 abbrev pub events_of : List Record → ℕ
 events_of rs = count_by (λ (r : Record). is_event r.op) rs
 

@@ -1,4 +1,4 @@
--- What is said of what nodes show and of runs alone.
+-- Laws of the entries of nodes and of runs.
 use Rattle.std.specs.Prelude.{ℕ, Bool, None, suc, ◌≡◌, ◌≤◌, ◌+◌, true, false, List, [], ◌∷◌, ◌++◌, length, Some}
 use mathlib.Core.List.{IsPrefix}
 use Rattle.txc_tags.specs.Keys.{Call}
@@ -17,7 +17,7 @@ use Rattle.txc_shared.specs.Histories.{cache_after, IsOfHistory, IsLegal, events
 
 -- ---- entries
 
--- what a hit shows of an entry stays true when the next event is taken
+-- the hit of an entry stays true when the next event is taken
 abbrev pub TrueAfterEvent : Type 0
 TrueAfterEvent = (next : Next) (L : History) (processed : ℕ) (e : Entry)
     → IsShownTrue next L processed e → suc processed ≤ length L
@@ -36,8 +36,7 @@ abbrev pub NodeBegins : Type 0
 NodeBegins = (next : Next) (L : History) (capacity depth from : ℕ)
     → from ≤ length L → IsNode next L (empty_cache_at capacity depth from) [] (empty_cache_at capacity depth from) false
 
--- the step may be made: the cache does not refuse it, its event is the history's, and what it hands in is
--- true
+-- the step may be made: it does not fail in the cache, its event is the history's, and its entry is true
 pub record MayStep (next : Next) (L : History) (c : Cache) (op : Op) : Type 0 where
   pub possible : refusal_of MOST_VALUE_LEN c op ≡ None
   pub event : IsOfHistory L op
@@ -74,7 +73,7 @@ abbrev pub BeginningIsLegal : Type 0
 BeginningIsLegal = (L : History) (start : Cache) (rs all : List Record)
     → IsPrefix rs all → IsLegal L start all → IsLegal L start rs
 
--- what a lookup finds in a true cache is true as it is shown
+-- the result of a lookup in a true cache is true
 abbrev pub AnswersAreTrue : Type 0
 AnswersAreTrue = (next : Next) (L : History) (c : Cache) (key : Call) (lo hi : ℕ) (found : Shown)
     → IsTrueCache next L c → lookup_answer c key lo hi ≡ Some found

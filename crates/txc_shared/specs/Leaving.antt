@@ -1,4 +1,4 @@
--- What a node leaves that ends.
+-- The entries of a node that ends.
 use Rattle.std.specs.Prelude.{◌≡◌, ℕ, ◌≤◌, List, ◌++◌, ◌∷◌, [], length}
 use Rattle.std.specs.List.{AllByRecursion}
 use Rattle.txc_node.specs.declared.entry.Entry.{Entry}
@@ -6,15 +6,15 @@ use Rattle.txc_db.specs.Seen.{FrontValue}
 use Rattle.txc_app.specs.Eval.{Next}
 use Rattle.txc_shared.specs.Runs.{IsShownTrue, shown_entry}
 
--- its number; its entries, the most recently used first; the stamp of the last event that it took; and what it has
--- seen of the database's history
+-- its number; its entries, the most recently used first; the stamp of the last event that it took; and what it
+-- has seen of the database's history
 pub record LeftValue : Type 0 where
   pub number : ℕ
   pub entries : List Entry
   pub processed : ℕ
   pub seen : FrontValue
 
--- what its entries show is true in what it has seen
+-- its entries, as hits show them, are true in the history that it has seen
 pub record IsLeftNode (next : Next) (left : LeftValue) : Type 0 where
   pub entries : AllByRecursion (IsShownTrue next left.seen.history left.processed) left.entries
   pub within : left.processed ≤ length left.seen.history

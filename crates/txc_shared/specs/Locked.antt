@@ -15,15 +15,15 @@ use Rattle.txc_shared.specs.Histories.{records_of}
 use Rattle.txc_shared.specs.Nodes.{NodeValue, IsHistoryFull, HasRecordRoom}
 use Rattle.txc_shared.specs.Passes.{PassValue}
 
--- what lies under a node's lock: the node's history and the database's row are the named ones; it began where a feed
--- does; and, unless it is broken, as many events were taken from the feed as it took
+-- invariant of the content of a node's lock: the node's history and the database's are the named ones; it began
+-- where a feed does; and, unless it is broken, it took as many events as were taken from the feed
 pub record LiesUnderLock (histories : ℕ → Name) (row : Name) (taken : ℕ) (n : NodeValue) : Type 0 where
   pub name : n.name ≡ histories n.settings.number
   pub events : n.seen.events ≡ row
   pub begun : n.from ≡ taken_at_start row n.from
   pub in_step : n.broken ≡ false → taken ≡ n.cache.processed
 
--- a whole node of the pass, which has all records that the pass has seen
+-- a node of the pass that is not broken, and has all records that the pass has seen
 pub record IsAhead (n : NodeValue) (p : PassValue) : Type 0 where
   pub whole : n.broken ≡ false
   pub settings : p.settings ≡ n.settings
@@ -47,7 +47,7 @@ abbrev pub Suits : Name → Prepared → Type 0
 Suits name (Stored next) = HasRow name
 Suits name (Unstored draft) = ¬ (HasRow name)
 
--- it is this record, but for the reply where it is stored
+-- it is this record, except for the reply if it is stored
 abbrev pub AwaitsReply : Record → Prepared → Type 0
 AwaitsReply r (Stored next) = record next.value { reply = r.reply } ≡ r
 AwaitsReply r (Unstored draft) = draft.value ≡ r

@@ -1,4 +1,4 @@
--- What callers see of a node with its stored history.
+-- The value of a node with its history in contracts.
 use Rattle.std.specs.Prelude.{◌≡◌, ◌⊎◌, ℕ, ◌+◌, ◌<◌, ◌≤◌, Bool, List, [], ◌∷◌, ◌++◌, length}
 use mathlib.Core.List.{IsPrefix}
 use Rattle.txc_stream.specs.Names.{Name, stored, unstored}
@@ -19,11 +19,11 @@ use Rattle.txc_shared.specs.declared.insertion.Insertion.TheVariants.{Stored, Ke
 use Rattle.txc_shared.specs.declared.settings.NodeSettings.{NodeSettings}
 use Rattle.txc_shared.specs.Histories.{next_record}
 
--- the cache of a node at the start, where so many events came before it
+-- the cache of a node at the start, if `from` events came before it
 abbrev pub start_of : NodeSettings → ℕ → Cache
 start_of settings from = empty_cache_at settings.capacity settings.recent from
 
--- what the history of a node is called, and the first records of it that were seen
+-- the identity of a node's history, and its first records, as observed
 pub record NodeFrontValue : Type 0 where
   pub name : Name
   pub records : List Record
@@ -34,9 +34,8 @@ pub record LogValue : Type 0 where
   pub records : List Record
   pub passes : ℕ
 
--- A node: its settings, and how many events came before it; what its history is called, its records, and how many
--- passes there are. Its cache; what it has seen of the database's history; and whether another record was found in
--- its row.
+-- A node: its settings, and how many events came before it; its history's identity, its records, and the number
+-- of passes. Its cache; the database history that it has seen; and whether another record was found in its log.
 pub record NodeValue : Type 0 where
   pub settings : NodeSettings
   pub from : ℕ
@@ -54,12 +53,12 @@ abbrev pub IsHistoryFull : Name → List Record → Type 0
 IsHistoryFull (stored cells) records = length records ≡ length cells
 IsHistoryFull (unstored number) records = ⊥
 
--- there is room for one record more: a cell, where they are stored
+-- there is room for another record: a cell, if they are stored
 abbrev pub HasRecordRoom : Name → List Record → Type 0
 HasRecordRoom (stored cells) records = length records < length cells
 HasRecordRoom (unstored number) records = Unit {0}
 
--- ---- what calls leave
+-- ---- the effect of calls
 
 -- the node after a step of a pass: its cache made the step, and its history has the record of it
 abbrev pub after_call : NodeValue → ℕ → Op → NodeValue
@@ -85,7 +84,7 @@ HasTags L number tags = (number ≤ length L) × (tags ≡ tags_at L number)
 
 -- ---- answers
 
--- what an insertion did, without its entries
+-- the result of an insertion without its entries
 abbrev pub insertion_of : Inserted → Insertion
 insertion_of (inserts.Stored reach evicted) = Stored reach
 insertion_of (inserts.Kept e) = Kept
@@ -102,7 +101,7 @@ pub record HasTakenAll (n : NodeValue) (shown : History) : Type 0 where
   pub of_its_own : length n.seen.history ≤ n.cache.processed
   pub of_the_shown : length shown ≤ n.cache.processed
 
--- It took the next event that it has seen, which closed so many entries; or it has taken all.
+-- It took the next event that it has seen, and closed that many entries; or it has taken all.
 abbrev pub HasAdvanced : NodeValue → ℕ → NodeValue → Advanced → Type 0
 HasAdvanced n pass new (Taken stamp closed) =
     (new ≡ after_call n pass (next_event n)) × (stamp ≡ next_stamp n) × (stamp ≤ length n.seen.history)

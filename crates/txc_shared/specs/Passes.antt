@@ -30,14 +30,14 @@ pub record PassValue : Type 0 where
   pub records : List Record
   pub history : History
 
--- The records are a legal history of a node of these settings. Where the database's history is stored, the node began
--- before its first event; else after some of the events that were seen.
+-- The records are a legal history of a node of these settings. If the database's history is stored, the node
+-- began before its first event; otherwise after some of the observed events.
 abbrev pub IsLegalOver : Name → History → NodeSettings → List Record → Type 0
 IsLegalOver (stored cells) L settings rs = IsLegal L (start_of settings 0) rs
 IsLegalOver (unstored number) L settings rs =
     (from : ℕ) × (from ≤ length L) × IsLegal L (start_of settings from) rs
 
--- as many events were taken as it has seen, beside those before the node began
+-- it took all events that it has seen, except those before the node began
 abbrev pub HasNoneLeft : Name → PassValue → Type 0
 HasNoneLeft (stored cells) p = events_of p.records ≡ length p.history
 HasNoneLeft (unstored number) p =
@@ -57,23 +57,23 @@ pub record HasSeen (old : PassValue) (all : List Record) (other : History) (new 
   pub either : (new.history ≡ old.history) ⊎ (new.history ≡ other)
   pub history : IsPrefix other new.history
 
--- the node agrees with what the pass says of it: its settings, its number, its turn after its own last call,
--- and how many records it has seen
+-- the node agrees with the pass: its settings, its number, its turn after its own last call, and the number of
+-- records that it has seen
 pub record DoAgree (n : NodeValue) (p : PassValue) : Type 0 where
   pub settings : p.settings ≡ n.settings
   pub own : p.pass < n.passes
   pub turn : records_of p.pass n.records ≡ records_of p.pass p.own
   pub seen : length p.records ≤ length n.records
 
--- ---- what a call leaves
+-- ---- the effect of a call
 
--- what was seen is followed by records of other passes alone
+-- the observed records are followed by records of other passes only
 pub record GrowsByOthers (pass : ℕ) (old new : List Record) : Type 0 where
   pub others : List Record
   pub is : new ≡ old ++ others
   pub none : records_of pass others ≡ 0
 
--- what was seen is followed by records of other passes, and then by the next one of its own
+-- the observed records are followed by records of other passes, and then by the next one of its own
 pub record HasNextRecord (pass : ℕ) (old new : List Record) (op : Op) (reply : Reply Shown) : Type 0 where
   pub others : List Record
   pub is : new ≡ old ++ others ++ next_record pass old op reply ∷ []
@@ -83,26 +83,27 @@ pub record HasNextRecord (pass : ℕ) (old new : List Record) (op : Op) (reply :
 abbrev pub HasMade : PassValue → PassValue → Op → Reply Shown → Type 0
 HasMade old new op reply = HasNextRecord old.pass old.records new.records op reply
 
--- it inserted the entry, and was answered so
+-- it inserted the entry, with this result
 pub record HasInserted (old new : PassValue) (e : Entry) (insertion : Insertion) : Type 0 where
   pub inserted : Inserted
   pub made : HasMade old new (Insert e) (replies.Inserted inserted)
   pub answer : insertion ≡ insertion_of inserted
 
--- it took the event of the stamp, which closed so many entries; or there is none left to take
+-- it took the event of the stamp, and closed that many entries; or no event is left
 abbrev pub HasTaken : Name → PassValue → PassValue → Advanced → Type 0
 HasTaken row old new (Taken stamp closed) =
     (tags : List Tag) × HasMade old new (Event stamp tags) (replies.Closed closed)
 HasTaken row old new Idle = GrowsByOthers old.pass old.records new.records × HasNoneLeft row new
 
--- the same pass took one event after the other, of these stamps, the latest first, each with a record of its own
+-- the same pass took one event after the other, of these stamps, the latest first, each with a record of its
+-- own
 abbrev pub HasTakenEach : Name → PassValue → List ℕ → PassValue → Type 0
 HasTakenEach row old [] new = new ≡ old
 HasTakenEach row old (stamp ∷ earlier) new = (before : PassValue) × (closed : ℕ) × HasTakenEach row old earlier before
     × HasGrown before new × HasTaken row before new (Taken stamp closed)
 
--- what a refusal leaves: a full history is seen up to the last of the row's cells; any other leaves the
--- pass as it was
+-- the pass after an error: a full history is seen up to the last of the log's cells; any other error leaves the
+-- pass as before
 abbrev pub IsPassLeft : Name → PassValue → PassValue → NodeError → Type 0
 IsPassLeft name old new HistoryFull =
     GrowsByOthers old.pass old.records new.records × IsHistoryFull name new.records

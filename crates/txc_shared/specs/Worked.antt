@@ -1,4 +1,4 @@
--- A node worked by hand, over the worked history: which histories of the node are legal beside it.
+-- Worked examples of a node over the worked history: its legal histories, and some that are not.
 use Rattle.std.specs.Prelude.{ℕ, true, List, [], ◌∷◌, ◌++◌, None}
 use Rattle.txc_tags.specs.Keys.{Call}
 use Rattle.txc_tags.specs.Tags.{id_tag, group_tag}
@@ -18,7 +18,7 @@ use Rattle.txc_shared.specs.Histories.{IsLegal}
 abbrev pub call_of_absent : Call
 call_of_absent = record { function = 0; args = 9 ∷ [] }
 
--- what it asks for is not there, from the first stamp to the newest, and still
+-- the row that it requests does not exist, from the first stamp to the newest, and still
 abbrev pub absent_entry : Entry
 absent_entry = record {
   key = call_of_absent;
@@ -48,8 +48,8 @@ three_steps =
 abbrev pub start : Cache
 start = empty_cache 4 4
 
--- which histories are legal: the last record has its step's reply, its pass's next turn, and the next event
--- with its tags
+-- the legal ones among the histories: the last record has its step's reply, its pass's next turn, and the next
+-- event with its tags
 pub record WorkedHistories : Type 0 where
   pub hit : IsLegal worked start (three_steps ++ by 0 1 looks_up (replies.Hit shown_absent) ∷ [])
   pub miss : ¬ (IsLegal worked start (three_steps ++ by 0 1 looks_up replies.Miss ∷ []))

@@ -1,4 +1,4 @@
--- Who lengthens the history of a node.
+-- The writer of a node's history.
 use Rattle.std.specs.Prelude.{◌≡◌, Option, None, Some}
 use Rattle.txc_stream.specs.Names.{HasRow, unstored}
 use Rattle.txc_stream.specs.declared.pen.Pen.{Pen}

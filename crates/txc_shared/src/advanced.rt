@@ -4,12 +4,12 @@ use txc_stamp::Stamp;
 /// Maximum number of events that a node takes under one lock.
 pub const MAX_TOGETHER: usize = 64;
 
-/// What an advance did.
+/// Result of an advance.
 #[derive(Clone, Copy, Debug, PartialEq, Eq)]
 pub enum Advanced {
-    /// The node took the event of that stamp, which closed so many entries.
+    /// The node took the event of that stamp, and closed that many entries.
     Taken { stamp: Stamp, closed: usize },
-    /// It had taken every event that it has seen.
+    /// The node had taken every event that it has seen.
     Idle,
 }
 
@@ -20,6 +20,6 @@ pub enum Ended {
     Idle,
     /// It has taken as many as it may in one call.
     Paused,
-    /// It returned this error for the next event. Those before it stay taken.
+    /// It failed with this error at the next event. The events before it stay taken.
     Refused(NodeError),
 }

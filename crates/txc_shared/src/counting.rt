@@ -1,4 +1,4 @@
-//! Counts of the steps of a node.
+//! Counting the steps of a node.
 ghost use Rattle.std.specs.Prelude.{◌≡◌, ◌+◌, ◌^◌, ◌<◌, ◌≤◌, ◌++◌, ◌∷◌, [], List, IfSome};
 ghost use Rattle.std.specs.Option.{option_map};
 ghost use Rattle.txc_tags.specs.declared.key.TheConstants.{LAST_FUNCTION};
@@ -10,7 +10,7 @@ ghost use Rattle.txc_shared.specs.Locked.{DoCountAlike};
 use txc_db::Answered;
 use txc_node::{Counts, Reply, Shown};
 
-/// Counts a step of that function by a reply that counts as the step's own does. It takes no memory.
+/// Counts a step of that function by a reply with the same counts as the step's own. Does not allocate.
 #[inline(always)]
 pub(crate) fn count_step<H>(counts: &mut Counts, function: Option<u8>, reply: &Reply<H>)
     requires function { IfSome function (λ f. f ≤ LAST_FUNCTION) }
@@ -22,7 +22,7 @@ pub(crate) fn count_step<H>(counts: &mut Counts, function: Option<u8>, reply: &R
     counts.count(function, reply);
 }
 
-/// What counts as the reply to a lookup that found this does. Nothing is copied.
+/// Returns a reply with the same counts as that of a lookup with this result. It copies nothing.
 pub(crate) fn reply_without_copies(found: &Option<Answered<Shown>>) -> Reply<()>
     ensures { DoCountAlike result (found_reply (option_map (λ f. f.answer) found.now)) }
 {

@@ -1,26 +1,28 @@
 ghost use Rattle.std.specs.Fmt.{WritesOnOk};
 ghost use Rattle.txc_shared.specs.Codes.{node_code};
 
+use crate::log::MAX_PASSES;
 use std::alloc::{AllocError, AllocFailed};
 use std::fmt;
 use thiserror::Error;
 
-/// Why a call of a node was refused. After it the node is as it was, but where a call found it `Broken`.
+/// Errors of a node. After an error the node is as it was, except that a call that finds it `Broken` leaves it
+/// broken.
 #[derive(Clone, Copy, Debug, PartialEq, Eq, Error)]
 pub enum NodeError {
-    /// Another record stood in the row after the node's own. From then on each call is refused so.
-    #[error("the node is broken")]
+    /// Another record is in the node's log after its own. Every later call fails so.
+    #[error("the node is broken: its log has another record")]
     Broken,
-    /// A lookup's stamps end before they begin.
-    #[error("the stamps end before they begin")]
+    /// The stamps of a lookup end before they begin.
+    #[error("the range of stamps ends before it begins")]
     EmptyRange,
-    /// The history has as many records as its row has cells.
-    #[error("the history is full")]
+    /// The history has as many records as its log has cells.
+    #[error("the node's history has no room for another record")]
     HistoryFull,
     /// There are [`crate::MAX_PASSES`] passes.
-    #[error("there are too many passes")]
+    #[error("the node has {MAX_PASSES} passes, and no more can be made")]
     PassesFull,
-    /// A growth was refused.
+    /// Memory cannot be allocated.
     #[error("out of memory")]
     Memory,
 }

@@ -1,4 +1,4 @@
-//! What is done to a node under its lock.
+//! The node's calls under its lock.
 ghost use Rattle.std.specs.Prelude.{◌≡◌, ◌+◌, ◌<◌, ◌⊎◌, ◌↔◌, [], true, false, length, Some, None, Ok, Err, IfOk, OnOk, OnErr, IfErr, IfSome};
 ghost use Rattle.std.specs.Option.{option_map};
 ghost use mathlib.Core.List.{IsPrefix};
@@ -33,7 +33,7 @@ use txc_stamp::Stamp;
 use txc_stream::{prefix_of_itself, prefix_of_prefix};
 use txc_tags::Key;
 
-/// What lies under the lock: the named node, and a feed of the events that it takes.
+/// The content of the lock: the named node, and a feed of the events that it takes.
 #[derive(Drop)]
 pub(crate) struct Held<A: App, J: Naming> {
     node: StoredNode<A>,
@@ -52,7 +52,7 @@ impl<A: App, J: Naming> Model for Held<A, J> {
 }
 
 impl<A: App, J: Naming> Held<A, J> {
-    /// The named node, which begins where the feed does.
+    /// Wraps the named node, which begins where the feed does.
     pub(crate) fn new(node: StoredNode<A>, feed: Feed<J>) -> Held<A, J>
         requires name { node.name ≡ J.node_histories node.settings.number }
         requires events { node.seen.events ≡ J.database_history }
@@ -63,7 +63,7 @@ impl<A: App, J: Naming> Held<A, J> {
         Held { node, feed }
     }
 
-    /// What the node holds, once no thread has it any more.
+    /// Returns the entries of the node, once no other thread has it.
     pub(crate) fn leave(self) -> LeftNode<A>
         ensures { result.seen.events ≡ J.database_history }
     {
@@ -71,7 +71,7 @@ impl<A: App, J: Naming> Held<A, J> {
         node.leave()
     }
 
-    // Whether the node agrees with what a pass says of it.
+    // Returns `true` if the node agrees with what a pass states about it.
     fn agrees(&self, pass: &NodePass<J>) -> bool
         ensures { result ≡ true ↔ DoAgree self.now pass.now }
     {
@@ -82,8 +82,8 @@ impl<A: App, J: Naming> Held<A, J> {
         self.node.turn(pass.pass) == pass.turn && seen <= self.node.front().len()
     }
 
-    // A whole node that agrees with a pass has all that the pass has seen, and no further record of it. It does
-    // nothing when it runs.
+    // A node that is not broken and agrees with a pass has all records that the pass has seen, and no further
+    // record of that pass. It does nothing when it runs.
     fn admits(&self, pass: &NodePass<J>)
         requires whole { self.now.broken ≡ false }
         requires agrees { DoAgree self.now pass.now }
@@ -93,8 +93,8 @@ impl<A: App, J: Naming> Held<A, J> {
         pass.records.agree(self.node.front());
     }
 
-    // Lets a pass make a step, where the node is whole and agrees with it. A pass that it does not agree
-    // with breaks it.
+    // Lets a pass make a step, if the node is not broken and agrees with it. If they disagree, the node becomes
+    // broken.
     fn admit(&mut self, pass: &NodePass<J>) -> Result<(), NodeError>
         ensures named { self.old.name ≡ J.node_histories self.old.settings.number }
         ensures ok { OnOk result (IsAdmitted self.old pass.now) }
@@ -116,7 +116,7 @@ impl<A: App, J: Naming> Held<A, J> {
         Ok(())
     }
 
-    // Gives the pass what the node has seen.
+    // Shows the pass what the node has seen.
     fn show(&self, pass: &mut NodePass<J>)
         requires { IsAhead self.now pass.old }
         ensures { HasSeen pass.old self.now.records self.now.seen.history pass.new }
@@ -127,7 +127,7 @@ impl<A: App, J: Naming> Held<A, J> {
         pass.see(self.node.front(), self.node.seen(), turn);
     }
 
-    // Shows a full history to the pass whose call it refuses.
+    // Shows a full history to the pass whose call fails.
     fn refuse(&self, pass: &mut NodePass<J>, refusal: NodeError) -> NodeError
         requires { refusal ≡ NodeError.HistoryFull
             → IsAdmitted self.now pass.old × IsHistoryFull self.now.name self.now.records }
@@ -144,7 +144,7 @@ impl<A: App, J: Naming> Held<A, J> {
         refusal
     }
 
-    /// One pass more, which has seen no record. It is broken where the node was made with other settings.
+    /// Adds a pass, which has seen no record. Fails as broken if the node was made with other settings.
     pub(crate) fn pass(&mut self, settings: NodeSettings) -> Result<NodePass<J>, NodeError>
         ensures named { self.old.name ≡ J.node_histories self.old.settings.number }
         ensures pass { IfOk result (λ pass. pass ≡ record {
@@ -171,7 +171,7 @@ impl<A: App, J: Naming> Held<A, J> {
         Ok(NodePass::new(settings, pass, records, events))
     }
 
-    /// The counts of the node's records, which it shows to the pass.
+    /// Returns the counts of the node's records, and shows these to the pass.
     pub(crate) fn node_counts(&mut self, pass: &mut NodePass<J>) -> Result<Counts, NodeError>
         ensures named { self.old.name ≡ J.node_histories self.old.settings.number }
         ensures after { OnOk result (self.new ≡ self.old) }
@@ -192,7 +192,8 @@ impl<A: App, J: Naming> Held<A, J> {
         Ok(counts)
     }
 
-    /// Looks up the call of `key` at the stamps from `lo` to `hi`, both included.
+    /// Looks up the call of `key` at the stamps from `lo` to `hi`, both included. A found value is true in the
+    /// front next to it.
     pub(crate) fn lookup(
         &mut self,
         alloc: Global,
@@ -224,8 +225,8 @@ impl<A: App, J: Naming> Held<A, J> {
         }
     }
 
-    /// Inserts an entry, which is true in what the front shows. The node keeps the longest of the fronts
-    /// that it meets.
+    /// Inserts an entry that is true in the front's history. The node takes over the front if it is longer than
+    /// its own.
     pub(crate) fn insert(
         &mut self,
         alloc: Global,
@@ -322,7 +323,7 @@ impl<A: App, J: Naming> Held<A, J> {
         (taken, Ended::Paused)
     }
 
-    /// Drops the entries whose span ends at the horizon or before it.
+    /// Drops the entries whose span ends at the horizon or before it, and returns how many.
     pub(crate) fn sweep(
         &mut self,
         alloc: Global,
@@ -347,7 +348,8 @@ impl<A: App, J: Naming> Held<A, J> {
         }
     }
 
-    /// Keeps the longest prefix of the entries whose values have at most `most` bytes in all.
+    /// Keeps the longest prefix of the entries whose values have at most `most` bytes in all. Returns how many
+    /// it dropped.
     pub(crate) fn trim(
         &mut self,
         alloc: Global,

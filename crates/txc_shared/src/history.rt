@@ -1,4 +1,4 @@
-//! The history of a node, and who lengthens it.
+//! The history of a node, and its writer.
 ghost use Rattle.std.specs.Prelude.{◌≡◌, ◌++◌, ◌∷◌, [], IfOk, IsTrue, ◌↔◌, true, false};
 ghost use Rattle.txc_stream.specs.Names.{stored, unstored, HasRow};
 ghost use Rattle.txc_shared.specs.Nodes.{NodeFrontValue};
@@ -11,7 +11,7 @@ use std::marker::Model;
 use txc_node::Record;
 use txc_stream::{EventRow, Front, Pen};
 
-/// The history of a node: a front that shows the whole of it, and, where it is not stored, its pen.
+/// The history of a node: a front that shows the whole of it, and, if it is ghost, its pen.
 #[derive(Drop)]
 pub(crate) struct History {
     front: NodeFront,
@@ -33,7 +33,7 @@ impl Model for History {
 }
 
 impl History {
-    /// In a row, of which nothing was seen.
+    /// Makes the history of a log of which nothing was observed. Fails only if memory cannot be allocated.
     pub(crate) fn stored(alloc: Global, row: EventRow<Record>) -> Result<History, AllocError>
         ensures { IfOk result (λ h. h ≡ record { name = stored row; records = [] }) }
     {
@@ -46,7 +46,7 @@ impl History {
         })
     }
 
-    /// In the proofs alone, without records.
+    /// Makes a ghost history without records.
     pub(crate) fn unstored(mut pen: Pen<Record>) -> History
         requires { pen.list ≡ [] }
         ensures { result ≡ record { name = unstored pen.number; records = [] } }
@@ -60,22 +60,22 @@ impl History {
         }
     }
 
-    /// A front that shows the whole of it.
+    /// Returns a front that shows the whole of it.
     pub(crate) fn front(&self) -> &NodeFront
         ensures { result.now ≡ self.now }
     {
         &self.front
     }
 
-    /// Another front, which shows nothing yet. It takes no memory: only a row of which there are too many
-    /// handles already refuses it.
+    /// Returns a front that shows nothing yet. It does not allocate, and fails only if the log has too many
+    /// handles.
     pub(crate) fn start(&self) -> Result<NodeFront, AllocError>
         ensures { IfOk result (λ front. front ≡ record { name = self.now.name; records = [] }) }
     {
         self.front.showing(self.start.again())
     }
 
-    /// Appends a record. `false` where another one stands in its cell; then nothing has changed.
+    /// Appends a record. Returns `false`, and changes nothing, if another one is in its cell.
     pub(crate) fn append(&mut self, next: Prepared) -> bool
         requires suits { Suits self.old.name next }
         requires room { CanGrow self.old.name self.old.records }

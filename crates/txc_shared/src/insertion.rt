@@ -4,18 +4,18 @@ ghost use Rattle.txc_shared.specs.Nodes.{insertion_of};
 use txc_node::Inserted;
 use txc_stamp::Reach;
 
-/// What an insertion did.
+/// Result of an insertion.
 #[derive(Clone, Copy, Debug, PartialEq, Eq)]
 pub enum Insertion {
-    /// The entry is stored, with its reach after the replay of the events that it missed, known up to the
+    /// The entry is stored. This is its reach after the replay of the events that it missed, known up to the
     /// last stamp of its span.
     Stored(Reach),
-    /// An entry of the same call and first stamp is there that ends no earlier, and stays.
+    /// The node has an entry of the same call and first stamp that ends no earlier, and keeps it.
     Kept,
 }
 
 impl Insertion {
-    /// What the cache says of it, without the entries.
+    /// Returns the result without the entries.
     pub(crate) fn of(inserted: &Inserted) -> Insertion
         ensures { result ≡ insertion_of inserted.now }
     {

@@ -1,4 +1,4 @@
-//! Laws over the definitions alone. None has anything to run: each one's contract is the law.
+//! Lemmas about the definitions. They have no code: each contract is a law.
 ghost use Rattle.txc_shared.specs.Laws.{TrueAfterEvent, TrueAfterReplay, NodeBegins, NodeGoesOn, NodeBreaks, NodeSeesMore, LegalInLonger, NoRecordIsLegal, BeginningIsLegal, AnswersAreTrue, EventsAreTaken};
 ghost use Rattle.txc_shared.specs.Worked.{WorkedHistories};
 
@@ -6,7 +6,7 @@ use txc_app::laws::{event_leaves_what_it_does_not_match, true_entries_stay};
 use txc_db::states_stay;
 use txc_node::laws::{insertion_replays_what_was_missed, lookup_finds_the_longest};
 
-/// What a node shows of a true entry stays true through each event, and through the replay of those that it
+/// A true entry stays true, as a node shows it, through each event and through the replay of those that it
 /// missed.
 pub fn entries_stay_true()
     ensures event { TrueAfterEvent }
@@ -16,7 +16,7 @@ pub fn entries_stay_true()
     insertion_replays_what_was_missed();
 }
 
-/// The steps of a node, one after another, keep what it holds true, and so does what it sees of the
+/// The steps of a node, one after another, keep its entries true, and so does each longer view of the
 /// database's history.
 pub fn nodes_go_on()
     ensures begins { NodeBegins }
@@ -29,15 +29,15 @@ pub fn nodes_go_on()
     entries_stay_true();
 }
 
-/// What a lookup finds is true.
+/// A value that a lookup finds is true.
 pub fn answers_are_true()
     ensures { AnswersAreTrue }
 {
     lookup_finds_the_longest();
 }
 
-/// A legal history is legal in a longer history of the database, so is each beginning of it, down to no
-/// record, and it names each event that was taken.
+/// A legal history of a node is legal in each longer history of the database, and so is each prefix of it. It
+/// names each event that was taken.
 pub fn legal_histories()
     ensures longer { LegalInLonger }
     ensures none { NoRecordIsLegal }
@@ -47,7 +47,7 @@ pub fn legal_histories()
     states_stay();
 }
 
-/// Which histories of a node that was worked by hand are legal beside the worked history of the database.
+/// The legal ones among the worked histories of a node, over the worked history of the database.
 pub fn worked_histories()
     ensures { WorkedHistories }
 {}

@@ -1,4 +1,4 @@
-//! What a node leaves that ends.
+//! The entries of a node that ends.
 ghost use Rattle.std.specs.Prelude.{◌≡◌, [], IfSome, MatchOption, length};
 ghost use Rattle.txc_app.specs.Claims.{IsTrueIn};
 ghost use Rattle.txc_shared.specs.Leaving.{LeftValue, WasLast};
@@ -9,7 +9,7 @@ use txc_db::HistoryFront;
 use txc_node::{Entry, Leaving};
 use txc_stamp::Stamp;
 
-/// What a node leaves that ends: its entries, each of which is true in what it has seen of the database's history.
+/// The entries of a node that ends. Each is true in the database history that the node has seen.
 #[derive(Drop)]
 pub struct LeftNode<A: App> {
     pub(crate) number: usize,
@@ -40,28 +40,28 @@ impl<A: App> Model for LeftNode<A> {
 }
 
 impl<A: App> LeftNode<A> {
-    /// The number of the node.
+    /// Returns the number of the node.
     pub fn number(&self) -> usize
         ensures { result ≡ self.now.number }
     {
         self.number
     }
 
-    /// What it has seen of the database's history.
+    /// Returns a front of the database history that the node has seen.
     pub fn seen(&self) -> &HistoryFront
         ensures { result.now ≡ self.now.seen }
     {
         &self.seen
     }
 
-    /// How many entries are left.
+    /// Returns how many entries are left.
     pub fn len(&self) -> usize
         ensures { result ≡ length self.now.entries }
     {
         self.entries.len()
     }
 
-    /// Takes out the least recently used entry, as a hit showed it. It takes no memory.
+    /// Removes the least recently used entry, and returns it as a hit shows it. Does not allocate.
     pub fn next(&mut self) -> Option<Entry>
         ensures is_true { IfSome result (IsTrueIn A.next self.old.seen.history) }
         ensures last { MatchOption result (self.old.entries ≡ []) (WasLast self.old self.new) }

@@ -1,5 +1,4 @@
-//! Cache nodes that threads share, each with the history of its steps, which is stored or exists in the proofs
-//! alone.
+//! Cache nodes that threads share, each with the history of its steps, which is stored or ghost.
 #![tactic(auto)]
 
 mod advanced;

@@ -50,7 +50,7 @@ impl Model for Log {
 }
 
 impl Log {
-    /// A log without records and passes.
+    /// Makes a log without passes; the history has no records.
     pub(crate) fn new(alloc: Global, history: History) -> Log
         requires { history.records ≡ [] }
         ensures { result ≡ record { name = history.name; records = []; passes = 0 } }
@@ -61,28 +61,28 @@ impl Log {
         }
     }
 
-    /// A front that shows its records.
+    /// Returns a front that shows its records.
     pub(crate) fn front(&self) -> &NodeFront
         ensures { result.now ≡ record { name = self.now.name; records = self.now.records } }
     {
         self.history.front()
     }
 
-    /// What a pass has seen that was just made.
+    /// Returns the front of a new pass, which shows no record. Fails only if the log has too many handles.
     pub(crate) fn start(&self) -> Result<NodeFront, AllocError>
         ensures { IfOk result (λ front. front ≡ record { name = self.now.name; records = [] }) }
     {
         self.history.start()
     }
 
-    /// How many passes there are.
+    /// Returns how many passes there are.
     pub(crate) fn passes(&self) -> usize
         ensures { result ≡ self.now.passes }
     {
         self.turns.len()
     }
 
-    /// One pass more, by its number.
+    /// Adds a pass, and returns its number. Fails, and changes nothing, only if memory cannot be allocated.
     pub(crate) fn add_pass(&mut self) -> Result<usize, AllocError>
         ensures pass { IfOk result (λ pass. pass ≡ self.old.passes) }
         ensures after { OnOk result (self.new ≡ record self.old { passes = self.old.passes + 1 }) }
@@ -93,7 +93,7 @@ impl Log {
         Ok(pass)
     }
 
-    /// How many of its records a pass made.
+    /// Returns how many of its records a pass made.
     pub(crate) fn turn(&self, pass: usize) -> usize
         requires { pass < self.now.passes }
         ensures { result ≡ records_of pass self.now.records }
@@ -102,7 +102,8 @@ impl Log {
         self.turns[pass]
     }
 
-    /// Refused as full; or as out of memory, where there are as many records as a number counts.
+    /// Fails as full if there is no room for a record, or as out of memory if there are as many records as a
+    /// `usize` can count.
     pub(crate) fn check_room(&self) -> Result<(), NodeError>
         ensures only_if { OnOk result (CanGrow self.now.name self.now.records) }
         ensures refused { IfErr result (IsRoomRefused self.now.name self.now.records) }
@@ -117,7 +118,7 @@ impl Log {
         Ok(())
     }
 
-    // The next record of a pass, for a row. Its reply is still to come.
+    // Makes the next record of a pass, for a stored history. Its reply is set later.
     fn boxed(&self, alloc: Global, pass: usize, op: Op) -> Result<Box<Record>, AllocError>
         requires { pass < self.now.passes }
         ensures { IfOk result (λ next. (reply : Reply Shown)
@@ -132,7 +133,7 @@ impl Log {
         Ok(Box::new(alloc, next)?)
     }
 
-    // The next record of a pass, in the proofs alone. There is nothing to run.
+    // Drafts the next record of a pass, for a ghost history. It has no code.
     fn draft(&self, pass: usize, op: &Op, core: &NodeCore) -> Draft<Record>
         requires { pass < self.now.passes }
         ensures { result.value ≡ next_record pass self.now.records op.now (step_reply core.now op.now) }
@@ -146,7 +147,8 @@ impl Log {
         Draft::of::<Planned<'_>, AsPlanned>(&planned)
     }
 
-    /// The next record of a pass, whose step the cache is to make. Only a stored one takes memory.
+    /// Prepares the next record of a pass, whose step the cache will make. Allocates, and so can fail, only if
+    /// records are stored.
     pub(crate) fn prepare(
         &self,
         alloc: Global,
@@ -167,7 +169,7 @@ impl Log {
         }
     }
 
-    // The record of a lookup, in the proofs alone. There is nothing to run.
+    // Drafts the record of a lookup, for a ghost history. It has no code.
     fn draft_lookup(
         &self,
         pass: usize,
@@ -191,7 +193,8 @@ impl Log {
         Draft::of::<Askable<'_>, AsLookup>(&askable)
     }
 
-    /// The record of a lookup that the cache is to make. Only a stored one takes memory.
+    /// Prepares the record of a lookup that the cache will make. Allocates, and so can fail, only if records
+    /// are stored.
     pub(crate) fn prepare_lookup(
         &self,
         alloc: Global,
@@ -214,7 +217,7 @@ impl Log {
         }
     }
 
-    // The record of an insertion, in the proofs alone. There is nothing to run.
+    // Drafts the record of an insertion, for a ghost history. It has no code.
     fn draft_insertion(&self, pass: usize, entry: &Entry, core: &NodeCore) -> Draft<Record>
         requires { pass < self.now.passes }
         ensures { result.value
@@ -229,7 +232,8 @@ impl Log {
         Draft::of::<Insertable<'_>, AsInsertion>(&insertable)
     }
 
-    /// The record of an insertion that the cache is to make. Only a stored one takes memory.
+    /// Prepares the record of an insertion that the cache will make. Allocates, and so can fail, only if
+    /// records are stored.
     pub(crate) fn prepare_insertion(
         &self,
         alloc: Global,
@@ -250,7 +254,7 @@ impl Log {
         }
     }
 
-    // The record of an event, in the proofs alone. There is nothing to run.
+    // Drafts the record of an event, for a ghost history. It has no code.
     fn draft_event(
         &self,
         pass: usize,
@@ -272,7 +276,8 @@ impl Log {
         Draft::of::<Takeable<'_>, AsEvent>(&takeable)
     }
 
-    /// The record of an event that the cache is to take. Only a stored one takes memory.
+    /// Prepares the record of an event that the cache will take. Allocates, and so can fail, only if records
+    /// are stored.
     pub(crate) fn prepare_event(
         &self,
         alloc: Global,
@@ -294,8 +299,8 @@ impl Log {
         }
     }
 
-    /// Appends a record of one of its passes. `false` where another one stands in its cell; then nothing
-    /// has changed.
+    /// Appends a record of one of its passes. Returns `false`, and changes nothing, if another one is in its
+    /// cell.
     #[inline(always)]
     pub(crate) fn append(&mut self, pass: usize, next: Prepared) -> bool
         requires suits { Suits self.old.name next }

@@ -1,4 +1,4 @@
-//! What somebody has seen of a node's history.
+//! An observed prefix of a node's history.
 ghost use Rattle.std.specs.Prelude.{◌≡◌, ◌+◌, ◌^◌, ◌<◌, ◌≤◌, ◌⊎◌, ◌++◌, ◌∷◌, [], length, Some, slice_get, IfOk, MatchOption, IsTrue, ◌↔◌, true, false};
 ghost use Rattle.std.specs.Arc.{arc_value};
 ghost use mathlib.Core.List.{IsPrefix};
@@ -12,10 +12,10 @@ use std::sync::Arc;
 use txc_node::Record;
 use txc_stream::{Draft, EventRow, Front, Pen};
 
-/// A prefix of the history of a node, as somebody has seen it.
+/// A prefix of the history of a node, as observed.
 ///
-/// Contracts see what the history is called and the records seen. Where the history is stored, it has a handle
-/// of the row, so that whoever has one can read it.
+/// Contracts see the history's identity and the records seen. If the history is stored, the front has a handle
+/// of the log, so that its owner can read it.
 #[derive(Drop)]
 pub struct NodeFront {
     row: Option<Arc<EventRow<Record>>>,
@@ -38,7 +38,7 @@ impl Model for NodeFront {
 }
 
 impl NodeFront {
-    /// A front that shows nothing yet of the row.
+    /// Makes a front that shows nothing yet of the log. Fails only if memory cannot be allocated.
     pub(crate) fn stored(alloc: Global, row: EventRow<Record>) -> Result<NodeFront, AllocError>
         ensures { IfOk result (λ front. front ≡ record { name = stored row; records = [] }) }
     {
@@ -47,7 +47,7 @@ impl NodeFront {
         Ok(NodeFront { row, front })
     }
 
-    /// What the front shows of a history that is not stored.
+    /// Makes a front of a history that is not stored.
     pub(crate) fn unstored(front: Front<Record>) -> NodeFront
         requires { ¬ (HasRow front.name) }
         ensures { result ≡ record { name = front.name; records = front.list } }
@@ -55,8 +55,8 @@ impl NodeFront {
         NodeFront { row: None, front }
     }
 
-    /// What another front shows of its history. It takes no memory: only a row of which there are too many
-    /// handles already refuses it.
+    /// Makes a front of the same history that shows what the plain front shows. It does not allocate, and fails
+    /// only if the log has too many handles.
     pub(crate) fn showing(&self, front: Front<Record>) -> Result<NodeFront, AllocError>
         requires { front.name ≡ self.now.name }
         ensures { IfOk result (λ other. other ≡ record { name = self.now.name; records = front.list }) }
@@ -68,7 +68,8 @@ impl NodeFront {
         Ok(NodeFront { row, front })
     }
 
-    /// The row of the records, where they are stored. Whoever appends to it breaks the node; tests do.
+    /// Returns the log of the records, if they are stored. A caller that appends to it breaks the node; tests
+    /// do so.
     pub fn row(&self) -> Option<&EventRow<Record>>
         ensures { MatchOption result
             (¬ (HasRow self.now.name))
@@ -80,14 +81,14 @@ impl NodeFront {
         }
     }
 
-    /// Whether its records are stored.
+    /// Returns `true` if its records are stored.
     pub fn is_stored(&self) -> bool
         ensures { IsTrue result ↔ HasRow self.now.name }
     {
         self.row.is_some()
     }
 
-    /// The front alone, which reads the row.
+    /// Returns the plain front, which reads the log.
     pub fn front(&self) -> &Front<Record>
         ensures name { result.now.name ≡ self.now.name }
         ensures records { result.now.list ≡ self.now.records }
@@ -95,7 +96,7 @@ impl NodeFront {
         &self.front
     }
 
-    /// One of the records that it shows; none where they are not stored.
+    /// Returns one of the records that it shows, counted from 0, or `None` if they are not stored.
     pub fn get(&self, at: usize) -> Option<&Record>
         requires { at < length self.now.records }
         ensures { MatchOption result
@@ -108,7 +109,7 @@ impl NodeFront {
         }
     }
 
-    /// How many records it shows.
+    /// Returns how many records it shows.
     pub fn len(&self) -> usize
         ensures shown { result ≡ length self.now.records }
         ensures room { HasCells self.now.name result }
@@ -116,14 +117,14 @@ impl NodeFront {
         self.front.len()
     }
 
-    /// Whether it shows no record.
+    /// Returns `true` if it shows no record.
     pub fn is_empty(&self) -> bool
         ensures { IsTrue result ↔ (self.now.records ≡ []) }
     {
         self.front.is_empty()
     }
 
-    /// Whether it shows as many records as its row has cells. One that is not stored is never full.
+    /// Returns `true` if it shows as many records as its log has cells. One that is not stored is never full.
     pub fn is_full(&self) -> bool
         ensures full { result ≡ true → IsHistoryFull self.now.name self.now.records }
         ensures room { result ≡ false → HasRecordRoom self.now.name self.now.records }
@@ -134,8 +135,8 @@ impl NodeFront {
         }
     }
 
-    /// Takes over what the other shows beyond this one, so that this one shows the longer history. It takes
-    /// no memory.
+    /// Takes over the records that only the other front shows, so that this one shows the longer history. Does
+    /// not allocate.
     pub fn longer(&mut self, other: &NodeFront)
         requires { other.now.name ≡ self.old.name }
         ensures name { self.new.name ≡ self.old.name }
@@ -146,8 +147,8 @@ impl NodeFront {
         self.front.longer(&other.front);
     }
 
-    /// Of two fronts of one history, the records of one are a prefix of the other's. It does nothing when it
-    /// runs.
+    /// Of two fronts of one history, the records of one are a prefix of the other's. This is a lemma: it does
+    /// nothing when it runs.
     pub fn agree(&self, other: &NodeFront)
         requires { self.now.name ≡ other.now.name }
         ensures { IsPrefix self.now.records other.now.records ⊎ IsPrefix other.now.records self.now.records }
@@ -155,7 +156,7 @@ impl NodeFront {
         self.front.agree(&other.front);
     }
 
-    /// Appends a stored record. `false` where another one stands in its cell; then nothing has changed.
+    /// Appends a stored record. Returns `false`, and changes nothing, if another one is in its cell.
     pub(crate) fn append(&mut self, next: Box<Record>) -> bool
         requires stored { HasRow self.old.name }
         requires room { HasRecordRoom self.old.name self.old.records }
@@ -172,7 +173,7 @@ impl NodeFront {
         }
     }
 
-    /// Appends a record by the pen that has written all that it shows.
+    /// Appends a record with the pen that has written all records of the front.
     pub(crate) fn write(&mut self, pen: &mut Pen<Record>, draft: Draft<Record>)
         requires name { self.old.name ≡ unstored pen.old.number }
         requires whole { self.old.records ≡ pen.old.list }

@@ -1,10 +1,12 @@
-//! What a caller has seen of a node.
+//! A caller's handle at a node.
 ghost use Rattle.std.specs.Prelude.{◌≡◌, ◌+◌, ◌<◌, ◌≤◌, ◌⊎◌, [], ℕ, take, length, MatchOption};
 ghost use mathlib.Core.List.{IsPrefix};
 ghost use Rattle.txc_stream.specs.Names.{stored, HasRow};
 ghost use Rattle.txc_node.specs.Counts.{AreCountsOf};
 ghost use Rattle.txc_shared.specs.Histories.{records_of};
 ghost use Rattle.txc_shared.specs.Passes.{PassValue, IsLegalOver, HasSeen};
+
+mod calls;
 
 use crate::laws::legal_histories;
 use crate::node_front::NodeFront;
@@ -14,15 +16,15 @@ use txc_db::{HistoryFront, Naming};
 use txc_node::{Counts, Record};
 use txc_stream::{EventRow, Front, prefix_of_itself, prefix_of_prefix};
 
-/// What a caller has seen of a node: a legal history of its records, and what they name of the database's
-/// history.
+/// A caller's handle at a node, with what it has seen: a legal history of the node's records, and the database
+/// history that they name.
 ///
-/// A caller makes its steps through a pass of its own, and finds the records of them in each history that
-/// the pass meets.
+/// A caller makes its steps through a pass of its own, and finds its records in each history that the pass
+/// takes over.
 pub struct NodePass<J: Naming> {
     pub(crate) settings: NodeSettings,
     pub(crate) pass: usize,
-    // How many of the records that its own last call showed it are its own.
+    // The number of own records among those that its own last call showed.
     pub(crate) turn: usize,
     own: Front<Record>,
     pub(crate) records: NodeFront,
@@ -30,7 +32,7 @@ pub struct NodePass<J: Naming> {
     of: PhantomData<J>,
 }
 
-// Not derived: a derived one is proved again in each crate above.
+// Not derived, since a derived one would be proved again in each crate above.
 impl<J: Naming> Drop for NodePass<J> {
     fn drop(self) {
         let NodePass {
@@ -70,7 +72,7 @@ impl<J: Naming> Model for NodePass<J> {
 }
 
 impl<J: Naming> NodePass<J> {
-    /// A pass that has seen no record.
+    /// Makes a pass that has seen no record.
     pub(crate) fn new(
         settings: NodeSettings,
         pass: usize,
@@ -97,22 +99,22 @@ impl<J: Naming> NodePass<J> {
         }
     }
 
-    /// How its node was made.
+    /// Returns the settings of its node.
     pub fn settings(&self) -> NodeSettings
         ensures { result ≡ self.now.settings }
     {
         self.settings
     }
 
-    /// How many records it has seen, of itself and of others.
+    /// Returns how many records it has seen, its own and others'.
     pub fn len(&self) -> usize
         ensures { result ≡ length self.now.records }
     {
         self.records.len()
     }
 
-    /// What it has seen is a legal history of its node, and begins with what its own last call showed it. It
-    /// does nothing when it runs.
+    /// The records that it has seen are a legal history of its node, and begin with those that its own last
+    /// call showed. This is a lemma: it does nothing when it runs.
     pub fn is_legal(&self)
         ensures legal { IsLegalOver J.database_history self.now.history self.now.settings self.now.records }
         ensures own { IsPrefix self.now.own self.now.records }
@@ -120,7 +122,7 @@ impl<J: Naming> NodePass<J> {
         let _len = self.records.len();
     }
 
-    /// The records that it has seen.
+    /// Returns a front of the records that it has seen.
     pub fn records(&self) -> &NodeFront
         ensures name { result.now.name ≡ J.node_histories self.now.settings.number }
         ensures records { result.now.records ≡ self.now.records }
@@ -128,7 +130,7 @@ impl<J: Naming> NodePass<J> {
         &self.records
     }
 
-    /// What it has seen of the database's history.
+    /// Returns a front of the database history that it has seen.
     pub fn events(&self) -> &HistoryFront
         ensures events { result.now.events ≡ J.database_history }
         ensures history { result.now.history ≡ self.now.history }
@@ -136,8 +138,8 @@ impl<J: Naming> NodePass<J> {
         &self.events
     }
 
-    /// Sees the records that a front shows, which go on from its own and have that many of its own, and
-    /// what the other front shows of the database's history beyond what it has seen itself.
+    /// Takes over a front of records that begins with its own and has `turn` records of this pass, and the
+    /// events of the database that only the other front shows.
     pub(crate) fn see(&mut self, records: &NodeFront, events: &HistoryFront, turn: usize)
         requires name { records.now.name ≡ J.node_histories self.old.settings.number }
         requires row { events.now.events ≡ J.database_history }
@@ -155,7 +157,7 @@ impl<J: Naming> NodePass<J> {
     }
 }
 
-/// Gives two passes of one node what either of them has seen. It takes no lock and no memory.
+/// Shows each of two passes of one node what the other has seen. It takes no lock, and does not allocate.
 pub fn meet<J: Naming>(one: &mut NodePass<J>, other: &mut NodePass<J>)
     requires { one.old.settings ≡ other.old.settings }
     ensures one { one.new ≡ record one.old { records = one.new.records; history = one.new.history } }
@@ -176,7 +178,8 @@ pub fn meet<J: Naming>(one: &mut NodePass<J>, other: &mut NodePass<J>)
     other.events.longer(&one.events);
 }
 
-/// The counts of the records that a pass has seen, where they are stored. It takes no lock and no memory.
+/// Returns the counts of the records that a pass has seen, or `None` if they are not stored. It takes no lock,
+/// and does not allocate.
 pub fn audit<J: Naming>(pass: &NodePass<J>) -> Option<Counts>
     ensures { MatchOption result
         (¬ (HasRow (J.node_histories pass.now.settings.number)))
@@ -187,7 +190,7 @@ pub fn audit<J: Naming>(pass: &NodePass<J>) -> Option<Counts>
     Some(count_records(row, records.front()))
 }
 
-// The counts of the records that a front of the row shows.
+// Returns the counts of the records that a front of the log shows.
 fn count_records(row: &EventRow<Record>, front: &Front<Record>) -> Counts
     requires { front.now.name ≡ stored row.now }
     ensures { AreCountsOf front.now.list result }

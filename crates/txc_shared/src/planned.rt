@@ -1,5 +1,4 @@
-//! Records of steps that are still to be made, in the proofs alone. What a cache will reply is known by the cache
-//! and the step.
+//! Ghost records of steps that are still to be made. The cache and the step determine the reply.
 ghost use Rattle.txc_shared.specs.Planned.{planned_record};
 
 use txc_node::{Entry, NodeCore, Op, Record};
@@ -7,7 +6,7 @@ use txc_stamp::Stamp;
 use txc_stream::Drafts;
 use txc_tags::{Key, TagSet};
 
-/// A step of a pass, and the cache that is to make it.
+/// A step of a pass, with the cache that will make it.
 #[derive(Drop)]
 pub(crate) struct Planned<'a> {
     pub(crate) pass: usize,

@@ -14,14 +14,14 @@ use txc_stream::Draft;
 /// A record that waits for its step.
 #[derive(Drop)]
 pub(crate) enum Prepared {
-    /// For a row. Its reply is still to come.
+    /// For a stored history. Its reply is set later.
     Stored(Box<Record>),
-    /// For a history that exists in the proofs alone. It has the reply that the step will give.
+    /// For a ghost history. It already has the reply of the step.
     Unstored(Draft<Record>),
 }
 
 impl Prepared {
-    /// The record with the reply of its step.
+    /// Returns the record with the reply of its step.
     pub(crate) fn answered(self, reply: Reply<Shown>) -> Prepared
         ensures suits { (name : Name) → Suits name self → Suits name result }
         ensures answered { (r : Record) → AwaitsReply r self → reply ≡ r.reply → record_in result ≡ r }
@@ -35,7 +35,7 @@ impl Prepared {
         }
     }
 
-    /// The record of a lookup that will find this. Only a stored one takes memory.
+    /// Returns the record of a lookup with this result. Allocates, and so can fail, only if records are stored.
     #[inline(always)]
     pub(crate) fn with_found(
         self,
@@ -56,14 +56,14 @@ impl Prepared {
     }
 }
 
-// The reply of a record whose room was made before the step.
+// Sets the reply of a record that was allocated before the step.
 fn set_reply(next: &mut Record, reply: Reply<Shown>)
     ensures { next.new ≡ record next.old { reply = reply } }
 {
     next.reply = reply;
 }
 
-// What a lookup that found this is replied.
+// Makes the reply of a lookup with this result.
 fn reply_to(alloc: Global, found: &Option<Answered<Shown>>) -> Result<Reply<Shown>, AllocError>
     ensures { IfOk result (λ reply. reply ≡ found_reply (option_map (λ f. f.answer) found.now)) }
 {

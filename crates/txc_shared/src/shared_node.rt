@@ -1,22 +1,11 @@
-//! The node under its lock, and the steps of passes through it.
-ghost use Rattle.std.specs.Prelude.{◌≡◌, ◌<◌, ◌≤◌, [], Ok, Err, IfOk, OnOk, IfErr, IfSome, MatchOption};
-ghost use Rattle.std.specs.Option.{option_map};
-ghost use mathlib.Core.List.{IsPrefix};
+//! The node under its lock.
+ghost use Rattle.std.specs.Prelude.{◌≡◌, ◌<◌, ◌≤◌, [], Ok, IfOk, IfErr, MatchOption};
 ghost use Rattle.txc_stream.specs.Names.{stored, unstored, HasRow};
-ghost use Rattle.txc_node.specs.declared.op.Op.TheVariants.{Lookup, Sweep, Trim};
-ghost use Rattle.txc_node.specs.declared.reply.Reply.TheVariants.{Swept, Trimmed};
-ghost use Rattle.txc_node.specs.Counts.{AreCountsOf};
-ghost use Rattle.txc_node.specs.Steps.{found_reply};
-ghost use Rattle.txc_app.specs.Claims.{IsTrueIn, entry_shown};
-ghost use Rattle.txc_shared.specs.Passes.{IsLegalOver, HasGrown, GrowsByOthers, HasMade, HasInserted, HasTaken, IsPassLeft};
-ghost use Rattle.txc_shared.specs.Refusals.{IsLookupRefused, IsStepRefused, IsTidyRefused, IsTakingRefused, IsCountRefused, IsRefusedThrough, IsNewPassRefused, NodeMayRefuse};
-ghost use Rattle.txc_shared.specs.Together.{HasTakenMany, StandTogether};
+ghost use Rattle.txc_shared.specs.Refusals.{IsNewPassRefused, NodeMayRefuse};
 
-use crate::advanced::{Advanced, Ended, MAX_TOGETHER};
 use crate::error::NodeError;
 use crate::held::Held;
 use crate::history::History;
-use crate::insertion::Insertion;
 use crate::left_node::LeftNode;
 use crate::log::MAX_PASSES;
 use crate::node_front::NodeFront;
@@ -27,26 +16,24 @@ use std::alloc::{AllocError, Global};
 use std::marker::Model;
 use std::sync::{Mutex, Wait};
 use txc_app::App;
-use txc_db::{Answered, Database, HistoryFront, Naming};
-use txc_lock::lock_soon;
-use txc_node::{Counts, Entry, MAX_CAPACITY, MAX_RECENT, Record, Shown};
+use txc_db::{Database, Naming, lock_soon};
+use txc_node::{MAX_CAPACITY, MAX_RECENT, Record};
 use txc_stamp::Stamp;
 use txc_stream::{EventRow, Pen};
-use txc_tags::Key;
 
-/// A node that threads share. Contracts see how it was made.
+/// A node that threads share. Contracts see its settings.
 ///
-/// A caller draws a pass, and makes its steps through it: each does the step of [`StoredNode`] of its name,
-/// for some beginning of the named history, and leaves the pass with what it has seen of that history. A node
-/// that a call finds `Broken` refuses each call so from then on.
+/// A caller makes a pass, and its steps through that: each does the step of [`StoredNode`] of the same name,
+/// for some prefix of the named history, and shows the pass what it has seen of that history. Once a call has
+/// found the node `Broken`, each later call fails so.
 pub struct SharedNode<A: App, J: Naming> {
     settings: NodeSettings,
     // Shows nothing.
     start: NodeFront,
-    lock: Mutex<Held<A, J>>,
+    pub(crate) lock: Mutex<Held<A, J>>,
 }
 
-// Not derived: a derived one is proved again in each crate above.
+// Not derived, since a derived one would be proved again in each crate above.
 impl<A: App, J: Naming> Drop for SharedNode<A, J> {
     fn drop(self) {
         let SharedNode {
@@ -69,9 +56,9 @@ impl<A: App, J: Naming> Model for SharedNode<A, J> {
 }
 
 impl<A: App, J: Naming> SharedNode<A, J> {
-    /// An empty node, which will take the events of the database: all of them where they are stored, and else those
-    /// after the ones that are there. Its row is the one named at its number. Where memory is refused, the row is
-    /// dropped.
+    /// Makes an empty node that will take the events of the database: all of them if they are stored, otherwise
+    /// those after the present ones. Its log is the one of its number. Fails, and drops the log, if memory
+    /// cannot be allocated.
     pub fn new(
         rt: &impl Wait,
         alloc: Global,
@@ -88,8 +75,8 @@ impl<A: App, J: Naming> SharedNode<A, J> {
         SharedNode::of(rt, alloc, settings, history, database)
     }
 
-    /// An empty node, which will take the same events. Its history exists in the proofs alone, and its pen is that
-    /// of the one named at its number.
+    /// Makes an empty node that will take the same events. Its history is ghost, and its pen is that of the
+    /// history of its number. Fails only if memory cannot be allocated.
     pub fn unstored(
         rt: &impl Wait,
         alloc: Global,
@@ -106,7 +93,7 @@ impl<A: App, J: Naming> SharedNode<A, J> {
         SharedNode::of(rt, alloc, settings, History::unstored(pen), database)
     }
 
-    // A node of that history under its lock, which begins where a feed of the database does.
+    // Makes a node of that history under its lock, which begins where a feed of the database does.
     #[tactic(auto, using(crate::proofs::Passes::begun_with))]
     fn of(
         rt: &impl Wait,
@@ -135,7 +122,8 @@ impl<A: App, J: Naming> SharedNode<A, J> {
         })
     }
 
-    /// A pass of its own for a caller, which has seen no record. At most [`MAX_PASSES`] are given.
+    /// Makes a pass for a caller, which has seen no record. Fails if [`MAX_PASSES`] were made, or the node is
+    /// broken, or memory cannot be allocated.
     pub fn pass(&self, rt: &impl Wait) -> Result<NodePass<J>, NodeError>
         ensures settings { IfOk result (λ pass. pass.settings ≡ self.now) }
         ensures number { IfOk result (λ pass. pass.pass < MAX_PASSES) }
@@ -145,7 +133,7 @@ impl<A: App, J: Naming> SharedNode<A, J> {
         lock_soon(rt, &self.lock).pass(self.settings)
     }
 
-    /// What the node holds, once no thread has it any more. It takes no memory.
+    /// Returns the entries of the node, once no other thread has it. Does not allocate.
     pub fn leave(self) -> LeftNode<A>
         ensures number { result.number ≡ self.number }
         ensures seen { result.seen.events ≡ J.database_history }
@@ -162,8 +150,8 @@ impl<A: App, J: Naming> SharedNode<A, J> {
         }
     }
 
-    /// The row of its records, where they are stored, which anybody reads without the lock. Whoever appends to
-    /// it breaks the node; tests do.
+    /// Returns the log of its records, if they are stored, which any thread reads without the lock. A caller
+    /// that appends to it breaks the node; tests do so.
     pub fn row(&self) -> Option<&EventRow<Record>>
         ensures { MatchOption result
             (¬ (HasRow (J.node_histories self.now.number)))
@@ -171,158 +159,5 @@ impl<A: App, J: Naming> SharedNode<A, J> {
     {
         let _number = self.settings.number;
         self.start.row()
-    }
-}
-
-impl<J: Naming> NodePass<J> {
-    /// The counts of all records of the node, stored or not, which it shows to the pass. It takes no memory.
-    pub fn node_counts<A: App>(
-        &mut self,
-        rt: &impl Wait,
-        node: &SharedNode<A, J>,
-    ) -> Result<Counts, NodeError>
-        ensures longer { HasGrown self.old self.new }
-        ensures legal { IsLegalOver J.database_history self.new.history self.new.settings self.new.records }
-        ensures others { OnOk result (GrowsByOthers self.old.pass self.old.records self.new.records) }
-        ensures counts { IfOk result (AreCountsOf self.new.records) }
-        ensures left { IfErr result (IsPassLeft (J.node_histories self.old.settings.number) self.old self.new) }
-        ensures refused { IfErr result
-            (NodeMayRefuse J.node_histories (λ n. IsRefusedThrough IsCountRefused n self.old)) }
-    {
-        let counts = lock_soon(rt, &node.lock).node_counts(self);
-        self.is_legal();
-        counts
-    }
-
-    /// Looks up the call of `key` at the stamps from `lo` to `hi`, both included. What it finds is true in
-    /// the history of the front beside it.
-    pub fn lookup<A: App>(
-        &mut self,
-        rt: &impl Wait,
-        alloc: Global,
-        node: &SharedNode<A, J>,
-        key: &Key,
-        lo: Stamp,
-        hi: Stamp,
-    ) -> Result<Option<Answered<Shown>>, NodeError>
-        ensures longer { HasGrown self.old self.new }
-        ensures legal { IsLegalOver J.database_history self.new.history self.new.settings self.new.records }
-        ensures made { IfOk result (λ found.
-            HasMade self.old self.new (Lookup key.now lo hi) (found_reply (option_map (λ f. f.answer) found))) }
-        ensures right { IfOk result (λ found. IfSome found (λ f.
-            IsTrueIn A.next f.front.history (entry_shown key.now f.answer))) }
-        ensures front { IfOk result (λ found. IfSome found (λ f. f.front.events ≡ J.database_history)) }
-        ensures shown { IfOk result (λ found. IfSome found (λ f. IsPrefix f.front.history self.new.history)) }
-        ensures left { IfErr result (IsPassLeft (J.node_histories self.old.settings.number) self.old self.new) }
-        ensures refused { IfErr result
-            (NodeMayRefuse J.node_histories (λ n. IsRefusedThrough (λ m. IsLookupRefused m lo hi) n self.old)) }
-    {
-        let found = lock_soon(rt, &node.lock).lookup(alloc, self, key, lo, hi);
-        self.is_legal();
-        found
-    }
-
-    /// Inserts an entry, which is true in what the front shows. Where it is refused, the entry is dropped.
-    pub fn insert<A: App>(
-        &mut self,
-        rt: &impl Wait,
-        alloc: Global,
-        node: &SharedNode<A, J>,
-        entry: Entry,
-        front: &HistoryFront,
-    ) -> Result<Insertion, NodeError>
-        requires row { front.now.events ≡ J.database_history }
-        requires is_true { IsTrueIn A.next front.now.history entry }
-        ensures longer { HasGrown self.old self.new }
-        ensures legal { IsLegalOver J.database_history self.new.history self.new.settings self.new.records }
-        ensures made { IfOk result (HasInserted self.old self.new entry) }
-        ensures shown { OnOk result (IsPrefix front.now.history self.new.history) }
-        ensures left { IfErr result (IsPassLeft (J.node_histories self.old.settings.number) self.old self.new) }
-        ensures refused { IfErr result
-            (NodeMayRefuse J.node_histories (λ n. IsRefusedThrough IsStepRefused n self.old)) }
-    {
-        let insertion = lock_soon(rt, &node.lock).insert(alloc, self, entry, front);
-        self.is_legal();
-        insertion
-    }
-
-    /// Takes the next event of the database's history. Where it is idle, each event that the pass has seen was taken
-    /// or came before the node.
-    pub fn advance<A: App>(
-        &mut self,
-        rt: &impl Wait,
-        alloc: Global,
-        node: &SharedNode<A, J>,
-    ) -> Result<Advanced, NodeError>
-        ensures longer { HasGrown self.old self.new }
-        ensures legal { IsLegalOver J.database_history self.new.history self.new.settings self.new.records }
-        ensures taken { IfOk result (HasTaken J.database_history self.old self.new) }
-        ensures left { IfErr result (IsPassLeft (J.node_histories self.old.settings.number) self.old self.new) }
-        ensures refused { IfErr result
-            (NodeMayRefuse J.node_histories (λ n. IsRefusedThrough IsTakingRefused n self.old)) }
-    {
-        let advanced = lock_soon(rt, &node.lock).advance(rt, alloc, self);
-        self.is_legal();
-        advanced
-    }
-
-    /// Takes up to [`MAX_TOGETHER`] events of the database's history, in order, under one lock, each with a record of its
-    /// own. Returns their number and the reason for which it stopped. If it returns an error for one of them, those before
-    /// it are taken and counted.
-    pub fn advance_many<A: App>(
-        &mut self,
-        rt: &impl Wait,
-        alloc: Global,
-        node: &SharedNode<A, J>,
-    ) -> (usize, Ended)
-        ensures longer { HasGrown self.old self.new }
-        ensures legal { IsLegalOver J.database_history self.new.history self.new.settings self.new.records }
-        ensures taken { HasTakenMany J.database_history J.node_histories MAX_TOGETHER self.old result.0 result.1 self.new }
-        ensures together { StandTogether self.old.pass result.0 self.old.records self.new.records }
-    {
-        let did = lock_soon(rt, &node.lock).advance_many(rt, alloc, self);
-        self.is_legal();
-        did
-    }
-
-    /// Drops the entries whose span ends at the horizon or before it, and counts them.
-    pub fn sweep<A: App>(
-        &mut self,
-        rt: &impl Wait,
-        alloc: Global,
-        node: &SharedNode<A, J>,
-        horizon: Stamp,
-    ) -> Result<usize, NodeError>
-        ensures longer { HasGrown self.old self.new }
-        ensures legal { IsLegalOver J.database_history self.new.history self.new.settings self.new.records }
-        ensures made { IfOk result (λ count. HasMade self.old self.new (Sweep horizon) (Swept count)) }
-        ensures left { IfErr result (IsPassLeft (J.node_histories self.old.settings.number) self.old self.new) }
-        ensures refused { IfErr result
-            (NodeMayRefuse J.node_histories (λ n. IsRefusedThrough IsTidyRefused n self.old)) }
-    {
-        let count = lock_soon(rt, &node.lock).sweep(alloc, self, horizon);
-        self.is_legal();
-        count
-    }
-
-    /// Keeps the longest prefix of the entries whose values have at most `most` bytes in all, and counts the entries that
-    /// it drops.
-    pub fn trim<A: App>(
-        &mut self,
-        rt: &impl Wait,
-        alloc: Global,
-        node: &SharedNode<A, J>,
-        most: usize,
-    ) -> Result<usize, NodeError>
-        ensures longer { HasGrown self.old self.new }
-        ensures legal { IsLegalOver J.database_history self.new.history self.new.settings self.new.records }
-        ensures made { IfOk result (λ count. HasMade self.old self.new (Trim most) (Trimmed count)) }
-        ensures left { IfErr result (IsPassLeft (J.node_histories self.old.settings.number) self.old self.new) }
-        ensures refused { IfErr result
-            (NodeMayRefuse J.node_histories (λ n. IsRefusedThrough IsTidyRefused n self.old)) }
-    {
-        let count = lock_soon(rt, &node.lock).trim(alloc, self, most);
-        self.is_legal();
-        count
     }
 }

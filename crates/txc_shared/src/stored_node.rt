@@ -1,4 +1,4 @@
-//! The node for one thread, which its lock holds too.
+//! The node for one thread, which the lock of a shared one holds.
 ghost use Rattle.std.specs.Prelude.{◌≡◌, ◌+◌, ◌<◌, ◌≤◌, ◌⊎◌, ◌↔◌, ◌++◌, ◌∷◌, [], true, false, length, Some, None, Ok, Err, IsOk, IfOk, OnOk, OnErr, IfErr, IfSome, IfNone, IsSome, IsTrue, MatchOption};
 ghost use Rattle.txc_stream.specs.Names.{stored, unstored, HasRow};
 ghost use Rattle.std.specs.Option.{option_map};
@@ -33,11 +33,12 @@ use txc_stamp::Stamp;
 use txc_stream::{EventRow, Pen};
 use txc_tags::{Key, TagSet};
 
-/// A node of the cache, with the history of its steps, which is stored or exists in the proofs alone, and what
-/// it has seen of the database's history.
+/// A node of the cache, with the history of its steps, which is stored or ghost, and the database history that
+/// it has seen.
 ///
-/// It is the state after its history, unless it is broken, and each result that it holds is true in what it
-/// has seen. A step is one of a pass, by the pass's number: its record has the pass's next turn.
+/// Unless it is broken, its state is that after its history. Each result that it stores is true in the database
+/// history that it has seen. Each step belongs to a pass, named by its number; its record has the pass's next
+/// turn.
 pub struct StoredNode<A: App> {
     settings: NodeSettings,
     from: Stamp,
@@ -49,7 +50,7 @@ pub struct StoredNode<A: App> {
     of: PhantomData<A>,
 }
 
-// Not derived: a derived one is proved again in each crate above.
+// Not derived, since a derived one would be proved again in each crate above.
 impl<A: App> Drop for StoredNode<A> {
     fn drop(self) {
         let StoredNode {
@@ -90,8 +91,8 @@ impl<A: App> Model for StoredNode<A> {
 }
 
 impl<A: App> StoredNode<A> {
-    /// An empty node, whose records the row will have. The front shows what it has seen of the database's
-    /// history.
+    /// Makes an empty node that stores its records in the log. The front shows the database history that it has
+    /// seen. Fails only if memory cannot be allocated.
     pub fn new(
         alloc: Global,
         settings: NodeSettings,
@@ -113,7 +114,8 @@ impl<A: App> StoredNode<A> {
         StoredNode::of(alloc, settings, history, seen, Stamp::ZERO)
     }
 
-    /// An empty node, whose records the pen writes. The front shows what it has seen of the database's history.
+    /// Makes an empty node whose ghost records the pen writes. The front shows the database history that it has
+    /// seen. Fails only if memory cannot be allocated.
     pub fn unstored(
         alloc: Global,
         settings: NodeSettings,
@@ -135,7 +137,8 @@ impl<A: App> StoredNode<A> {
         StoredNode::of(alloc, settings, History::unstored(pen), seen, Stamp::ZERO)
     }
 
-    /// An empty node of that history, which begins after the first events that the front shows.
+    /// Makes an empty node of that history, which begins after the first `from` events that the front shows.
+    /// Fails only if memory cannot be allocated.
     pub(crate) fn of(
         alloc: Global,
         settings: NodeSettings,
@@ -173,9 +176,8 @@ impl<A: App> StoredNode<A> {
         })
     }
 
-    /// What holds of every node: the results that it shows are true in what it has seen of the database's
-    /// history, and, unless it is broken, it is the state after a legal history. It does nothing when it
-    /// runs.
+    /// In every node the stored results are true in the database history that it has seen; unless it is broken,
+    /// its state is that after a legal history. This is a lemma: it does nothing when it runs.
     pub fn is_sound(&self)
         ensures { IsNode A.next self.now.seen.history (start_of self.now.settings self.now.from)
             self.now.records self.now.cache self.now.broken }
@@ -183,21 +185,21 @@ impl<A: App> StoredNode<A> {
         let _whole = self.broken;
     }
 
-    /// How it was made.
+    /// Returns its settings.
     pub fn settings(&self) -> NodeSettings
         ensures { result ≡ self.now.settings }
     {
         self.settings
     }
 
-    /// How many events came before it.
+    /// Returns how many events came before it.
     pub fn from(&self) -> Stamp
         ensures { result ≡ self.now.from }
     {
         self.from
     }
 
-    /// What it holds, once it is not wanted any more. It takes no memory.
+    /// Returns the entries of a node that is no longer used. Does not allocate.
     pub fn leave(self) -> LeftNode<A>
         ensures number { result.number ≡ self.settings.number }
         ensures entries { result.entries ≡ self.cache.entries }
@@ -224,49 +226,49 @@ impl<A: App> StoredNode<A> {
         }
     }
 
-    /// A front that shows its records.
+    /// Returns a front that shows its records.
     pub fn front(&self) -> &NodeFront
         ensures { result.now ≡ record { name = self.now.name; records = self.now.records } }
     {
         self.log.front()
     }
 
-    /// What it has seen of the database's history.
+    /// Returns a front of the database history that it has seen.
     pub fn seen(&self) -> &HistoryFront
         ensures { result.now ≡ self.now.seen }
     {
         &self.seen
     }
 
-    /// How many events it has taken, with those that came before it.
+    /// Returns how many events it has taken, including those that came before it.
     pub fn processed(&self) -> Stamp
         ensures { result ≡ self.now.cache.processed }
     {
         self.core.processed()
     }
 
-    /// How many passes there are.
+    /// Returns how many passes there are.
     pub fn passes(&self) -> usize
         ensures { result ≡ self.now.passes }
     {
         self.log.passes()
     }
 
-    /// Returns how many entries it holds.
+    /// Returns how many entries it stores.
     pub fn len(&self) -> usize
         ensures { result ≡ length self.now.cache.entries }
     {
         self.core.len()
     }
 
-    /// Returns the bytes of the values of its entries in all.
+    /// Returns the number of bytes of its entries' values in all.
     pub fn bytes(&self) -> usize
         ensures { result ≡ bytes_of self.now.cache.entries }
     {
         self.core.bytes()
     }
 
-    /// How many of its records a pass made.
+    /// Returns how many of its records a pass made.
     pub fn turn(&self, pass: usize) -> usize
         requires { pass < self.now.passes }
         ensures { result ≡ records_of pass self.now.records }
@@ -274,7 +276,7 @@ impl<A: App> StoredNode<A> {
         self.log.turn(pass)
     }
 
-    /// The counts of its records; none where it is broken.
+    /// Returns the counts of its records, or `None` if it is broken.
     pub fn counts(&self) -> Option<&Counts>
         ensures { MatchOption result
             (self.now.broken ≡ true)
@@ -286,15 +288,14 @@ impl<A: App> StoredNode<A> {
         Some(&self.counts)
     }
 
-    /// Whether another record was found in its row.
+    /// Returns `true` if another record was found in its log.
     pub fn is_broken(&self) -> bool
         ensures { result ≡ self.now.broken }
     {
         self.broken
     }
 
-    /// Takes over what a front shows beyond what the node has seen of the database's history. It takes no
-    /// memory.
+    /// Takes over the events of the database that only the front shows. Does not allocate.
     pub fn see(&mut self, front: &HistoryFront)
         requires { front.now.events ≡ self.old.seen.events }
         ensures seen { IsLonger self.old.seen front.now self.new.seen }
@@ -304,14 +305,14 @@ impl<A: App> StoredNode<A> {
         self.seen.longer(front);
     }
 
-    /// From now on each call is refused as broken.
+    /// Makes each later call fail as broken.
     pub(crate) fn set_broken(&mut self)
         ensures { self.new ≡ record self.old { broken = true } }
     {
         self.broken = true;
     }
 
-    // Refused as broken.
+    // Fails if it is broken.
     fn check_whole(&self) -> Result<(), NodeError>
         ensures only_if { OnOk result (self.now.broken ≡ false) }
         ensures refused { OnErr result ((result ≡ Err NodeError.Broken) × (self.now.broken ≡ true)) }
@@ -322,7 +323,8 @@ impl<A: App> StoredNode<A> {
         Ok(())
     }
 
-    // Refused as full; or as out of memory, where there are as many records as a number counts.
+    // Fails as full if there is no room for a record, or as out of memory if there are as many records as a
+    // `usize` can count.
     fn check_room(&self) -> Result<(), NodeError>
         ensures only_if { OnOk result (CanGrow self.now.name self.now.records) }
         ensures refused { IfErr result (IsRoomRefused self.now.name self.now.records) }
@@ -330,7 +332,7 @@ impl<A: App> StoredNode<A> {
         self.log.check_room()
     }
 
-    /// Refuses a pass that cannot be made, whatever memory there is.
+    /// Fails if no pass can be added, whatever memory there is.
     pub(crate) fn check_pass(&self) -> Result<(), NodeError>
         ensures only_if { OnOk result ((self.now.broken ≡ false) × (self.now.passes < MAX_PASSES)) }
         ensures refused { IfErr result (IsPassRefused self.now) }
@@ -342,7 +344,8 @@ impl<A: App> StoredNode<A> {
         Ok(())
     }
 
-    /// One pass more, by its number.
+    /// Adds a pass, and returns its number. Fails if the node is broken, has [`MAX_PASSES`] passes, or memory
+    /// cannot be allocated.
     pub fn pass(&mut self) -> Result<usize, NodeError>
         ensures pass { IfOk result (λ pass. pass ≡ self.old.passes) }
         ensures after { OnOk result (self.new ≡ record self.old { passes = self.old.passes + 1 }) }
@@ -354,15 +357,16 @@ impl<A: App> StoredNode<A> {
         Ok(self.log.add_pass()?)
     }
 
-    /// What a pass has seen that was just made.
+    /// Returns the front of a new pass, which shows no record. Fails only if the log has too many handles.
     pub(crate) fn start(&self) -> Result<NodeFront, AllocError>
         ensures { IfOk result (λ front. front ≡ record { name = self.now.name; records = [] }) }
     {
         self.log.start()
     }
 
-    /// Looks up the call of `key` at the stamps from `lo` to `hi`, both included. What it finds is true in
-    /// the front beside it, which is what the node has seen.
+    /// Looks up the call of `key` at the stamps from `lo` to `hi`, both included. A found value is true in the
+    /// front next to it, which is the database history that the node has seen. Fails if `hi` is below `lo`, the
+    /// node is broken, its history is full, or memory cannot be allocated.
     pub fn lookup(
         &mut self,
         alloc: Global,
@@ -407,8 +411,8 @@ impl<A: App> StoredNode<A> {
         Ok(found)
     }
 
-    /// Inserts an entry, which is true in what the front shows. The node keeps the longer of that front and
-    /// its own. Where it is refused, the entry is dropped.
+    /// Inserts an entry that is true in the front's history. The node keeps the longer of that front and its
+    /// own. If this fails, the entry is dropped.
     pub fn insert(
         &mut self,
         alloc: Global,
@@ -449,8 +453,8 @@ impl<A: App> StoredNode<A> {
         Ok(insertion)
     }
 
-    // The tags of an event that the node has seen, or the front shows: those that were posted, or those that stand
-    // beside it in its row. None where it stands in no row.
+    // Returns the tags of an event that the node or the front has seen: the posted ones, or those stored with
+    // the event. None if they were not posted and the event is not stored.
     fn tags_of(
         &self,
         alloc: Global,
@@ -476,8 +480,9 @@ impl<A: App> StoredNode<A> {
         copied(alloc, front.event_at(number))
     }
 
-    /// Takes the next event of the database's history that the node or the front has seen, and says how
-    /// many entries it closed. The node keeps the longer of that front and its own.
+    /// Takes the next event of the database's history that the node or the front has seen, and returns how many
+    /// entries it closed. The node keeps the longer of that front and its own. Fails if the node is broken, its
+    /// history is full, or memory cannot be allocated.
     pub fn advance(
         &mut self,
         alloc: Global,
@@ -497,7 +502,7 @@ impl<A: App> StoredNode<A> {
         self.advance_by(alloc, pass, front, None)
     }
 
-    /// The same, where the tags of the next event that the front shows may have been posted.
+    /// Takes the next event as [`StoredNode::advance`] does, with its tags if they were posted.
     pub fn advance_by(
         &mut self,
         alloc: Global,
@@ -549,7 +554,8 @@ impl<A: App> StoredNode<A> {
         Ok(Advanced::Taken { stamp, closed })
     }
 
-    /// Drops the entries whose span ends at the horizon or before it, and counts them.
+    /// Drops the entries whose span ends at the horizon or before it, and returns how many. Fails if the node
+    /// is broken, its history is full, or memory for the record cannot be allocated.
     pub fn sweep(&mut self, alloc: Global, pass: usize, horizon: Stamp) -> Result<usize, NodeError>
         requires { pass < self.old.passes }
         ensures after { OnOk result (self.new ≡ after_call self.old pass (Sweep horizon)) }
@@ -575,8 +581,8 @@ impl<A: App> StoredNode<A> {
         Ok(dropped)
     }
 
-    /// Keeps the longest prefix of the entries whose values have at most `most` bytes in all, and counts the entries that
-    /// it drops.
+    /// Keeps the longest prefix of the entries whose values have at most `most` bytes in all. Returns how many
+    /// it dropped. Fails as [`StoredNode::sweep`] does.
     pub fn trim(&mut self, alloc: Global, pass: usize, most: usize) -> Result<usize, NodeError>
         requires { pass < self.old.passes }
         ensures after { OnOk result (self.new ≡ after_call self.old pass (Trim most)) }
@@ -603,7 +609,7 @@ impl<A: App> StoredNode<A> {
     }
 }
 
-// A copy of what the cache lends of an entry, with a front of the same.
+// Copies a lent entry, with a front of the same history.
 fn copied_hit(
     alloc: Global,
     hit: Option<Hit<'_>>,
@@ -620,7 +626,7 @@ fn copied_hit(
     Ok(Some(Answered { answer, front }))
 }
 
-// The tags of an event, where there is one.
+// Returns the tags of an event, if there is one.
 fn copied(alloc: Global, event: Option<&Event>) -> Result<Option<TagSet>, AllocError>
     ensures { IfOk result (λ tags.
         MatchOption event.entry (tags ≡ None) (λ event. tags ≡ Some event.now.tags)) }

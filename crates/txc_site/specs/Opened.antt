@@ -1,4 +1,4 @@
--- What a site that is opened gives.
+-- The result of a site's run.
 use Rattle.std.specs.Prelude.{◌≡◌, ℕ, List, Option, vec_len}
 use Rattle.txc_stream.specs.Names.{Name}
 use Rattle.txc_carry.specs.Rooms.{IsHistoryFor}
@@ -14,8 +14,8 @@ use Rattle.txc_visits.specs.Plans.{IsPlan}
 use Rattle.txc_visits.specs.Sites.{HaveCome, IsRegistryRefused, IsSiteRefused}
 use Rattle.txc_ledger.specs.Writes.{IsWritten, IsSiteWriteRefused}
 
--- Over a database whose history is kept as the plan says, the opening was written in its first run.
--- There are so many outputs, each of which is what the thread of its number gives there. What is left is of that history.
+-- Over a database whose history is stored by the plan, the opening was committed in its first run. There are
+-- `count` outputs, each of which the thread of its number gives there. The warmth left is of that history.
 pub record IsVisited {O T : Type 0} (next : Next) (plan : Plan) (count : ℕ) (makes : RwValue → O → Type 0)
     (gives : Plan → Name → ℕ → T → Type 0) (visited : Visited O T) : Type 0 where
   pub row : Name
@@ -26,14 +26,14 @@ pub record IsVisited {O T : Type 0} (next : Next) (plan : Plan) (count : ℕ) (m
   pub came : HaveCome (gives plan row) visited.outputs.items
   pub last : visited.last.events ≡ row
 
--- a database whose history is kept so refused the opening, in one try
+-- over a database with this kind of history the opening failed, in one try
 pub record IsUnopened {T : Type 0} (events : Option ℕ) (makes : RwValue → T → Type 0) (refuses : RunError → Type 0) (error : WriteError)
     : Type 0 where
   pub row : Name
   pub room : IsHistoryFor events row
   pub refused : IsSiteWriteRefused row makes refuses 1 error
 
--- of a site: it was not made; or its opening was refused; or there was no memory for the threads
+-- of a site: it was not made; or its opening failed; or there was no memory for the threads
 abbrev pub IsOpenRefused : {T : Type 0} → Plan → List ℕ → (RwValue → T → Type 0) → (RunError → Type 0) → OpenError → Type 0
 IsOpenRefused plan numbers makes refuses (opens.Site error) = IsSiteRefused plan numbers error
 IsOpenRefused plan numbers makes refuses (opens.Opening error) = IsPlan plan × IsUnopened plan.events makes refuses error
@@ -41,7 +41,7 @@ IsOpenRefused plan numbers makes refuses opens.Threads = IsPlan plan
 
 -- ---- by its parts
 
--- of the opening: as a registry is; or as a change is, in one try
+-- of the opening: an error of a registry; or an error of a change, in one try
 abbrev pub IsOpeningRefused : {T : Type 0} → List ℕ → Name → (RwValue → T → Type 0) → (RunError → Type 0) → OpenError → Type 0
 IsOpeningRefused numbers row makes refuses (opens.Site error) = IsRegistryRefused numbers error
 IsOpeningRefused numbers row makes refuses (opens.Opening error) = IsSiteWriteRefused row makes refuses 1 error

@@ -1,25 +1,26 @@
-//! Why a site ends though another generation is wanted.
+//! Errors of generations.
 use std::alloc::AllocError;
 use thiserror::Error;
 use txc_carry::CarryError;
 use txc_db::DbError;
 use txc_visits::OpenError;
 
-/// Why a site ended though another generation was wanted, or the first one was.
+/// Errors that end a site although its visitors asked for another generation.
 #[derive(Drop, Debug, Error)]
 pub enum GenerationError {
-    /// The site of a generation was not made, and no thread of it was started; or there was no memory for the
-    /// threads, and what they gave is lost.
+    /// The site of a generation cannot be made, and no thread of it was started; or memory for the threads
+    /// cannot be allocated, and their results are lost.
     #[error("{0}")]
     Visit(OpenError),
-    /// All threads of a generation had ended, and its database gave no front of its whole history: out of
-    /// memory, or it shows less than when the generation began. What the threads gave is lost.
+    /// All threads of a generation had ended, and its database returned no front of its whole history: memory
+    /// cannot be allocated, or it shows less than when the generation began. The results of the threads are
+    /// lost.
     #[error("{0}")]
     Ended(DbError),
-    /// The state was not carried over to a next generation.
+    /// The state cannot be carried over to the next generation.
     #[error("{0}")]
     Carry(CarryError),
-    /// There was no memory for a next generation. No thread of it was started.
+    /// Memory for the next generation cannot be allocated. No thread of it was started.
     #[error("out of memory")]
     Memory,
 }

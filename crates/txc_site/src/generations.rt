@@ -1,4 +1,4 @@
-//! A site that goes on: one generation after the other.
+//! A site in generations, one after the other.
 ghost use Rattle.std.specs.Prelude.{◌≡◌, ◌<◌, ◌⊎◌, [], All, Err, IfErr, IfOk, IfSome, length};
 ghost use mathlib.Core.List.{IsPrefix};
 ghost use Rattle.txc_carry.specs.Rooms.{IsHistoryFor};
@@ -25,30 +25,30 @@ use txc_shared::LeftNode;
 use txc_stamp::Stamp;
 use txc_visits::{Application, OpenError, Plan, Succession, Visits, Warmth, over_new_histories};
 
-/// What the opening of a site in generations gave, with its commit. It has no front, which would keep the row of the first
-/// generation in memory: that generation begins with it.
+/// Result of the opening of a site in generations, with its commit. It has no front, which would keep the log
+/// of the first generation in memory: that generation begins with it.
 #[derive(Drop)]
 pub struct OpeningCommit<O> {
     pub output: O,
-    /// The newest stamp that the commit left.
+    /// The newest stamp after the commit.
     pub stamp: Stamp,
-    /// What its transaction was answered, in order.
+    /// The results that its transaction has read, in order.
     pub answers: Vec<Given>,
     pub conflicts: Vec<Answered<Stamp>>,
 }
 
-/// What a site gave in all its generations.
+/// Result of a site in all its generations.
 #[derive(Drop)]
 pub struct Served<O, T> {
-    /// What the opening gave, with its commit.
+    /// Result of the opening, with its commit.
     pub opening: OpeningCommit<O>,
-    /// What each thread of each generation gave, in the order of the generations and of the threads.
+    /// Result of each thread of each generation, in the order of the generations and of the threads.
     pub generations: Vec<Vec<T>>,
-    /// Whether the visitors wanted no other generation, or why there was none.
+    /// `Ok` if the visitors asked for no other generation, or the error that ended them.
     pub end: Result<(), GenerationError>,
 }
 
-/// What a generation begins with.
+/// The beginning of a generation.
 #[derive(Drop)]
 struct Begun<A: App> {
     core: DbCore,
@@ -56,7 +56,7 @@ struct Begun<A: App> {
     warmth: Option<Warmth<A>>,
 }
 
-/// What a generation leaves.
+/// The end of a generation.
 #[derive(Drop)]
 struct Ended<A: App, T> {
     generation: Generation<T>,
@@ -64,7 +64,8 @@ struct Ended<A: App, T> {
     left: Vec<LeftNode<A>>,
 }
 
-/// The front of the whole history, which goes on from what was seen of it. `Broken` where it shows less.
+/// Returns a front of the whole history, which begins with the events seen before. Fails as `Broken` if the
+/// history is shorter.
 fn whole_front(core: &DbCore, seen: &HistoryFront) -> Result<HistoryFront, DbError>
     requires { core.now.events ≡ seen.now.events }
     ensures whole { IfOk result (λ front. front ≡ front_of core.now) }
@@ -80,7 +81,7 @@ fn whole_front(core: &DbCore, seen: &HistoryFront) -> Result<HistoryFront, DbErr
     Ok(whole)
 }
 
-/// One generation: it begins with this database, and ends once all threads have.
+/// Runs one generation: it begins with this database, and ends once all threads have.
 #[tactic(auto, using(txc_visits::proofs::Tended::tended_at))]
 fn generation<A, D, V, C, R>(
     rt: &R,
@@ -142,7 +143,8 @@ where
     })
 }
 
-/// What goes over to the nodes of the next generation; nothing where a front was refused.
+/// Returns the entries for the nodes of the next generation, or `None` if there is no front of the whole
+/// history.
 fn warmth<A: App>(
     left: Vec<LeftNode<A>>,
     whole: Result<HistoryFront, AllocError>,
@@ -165,7 +167,8 @@ fn warmth<A: App>(
     })
 }
 
-/// What the next generation begins with: the newest state of this database, and what these nodes held.
+/// Returns the beginning of the next generation: the newest state of this database, and the entries of these
+/// nodes.
 fn next<A: App>(
     alloc: Global,
     plan: Plan,
@@ -194,7 +197,7 @@ fn next<A: App>(
     })
 }
 
-/// What the opening gave, and the front of its commit.
+/// Splits the result of the opening from the front of its commit.
 fn parts<O>(written: Written<O>) -> (OpeningCommit<O>, HistoryFront)
     ensures output { result.0.output ≡ written.output }
     ensures committed { committed_with result.0 result.1 ≡ written.committed }
@@ -219,7 +222,7 @@ fn parts<O>(written: Written<O>) -> (OpeningCommit<O>, HistoryFront)
     (opened, front)
 }
 
-/// Goes on as [`with_generations_at`] does, at a clock that counts how often it was looked at.
+/// Runs as [`with_generations_at`] does, at a clock that counts how many times it was read.
 pub fn with_generations<A, D, O, V, R>(
     rt: &R,
     alloc: Global,
@@ -246,13 +249,13 @@ where
     )
 }
 
-/// Opens a site as [`with_clock`](crate::with_clock) does, and lets the threads visit. Once all have ended, the
-/// visitors answer whether they come again. Where they do, the newest state goes on in a new history
-/// with the plan's room, with new nodes, and `count` threads visit that; and so on.
+/// Opens a site as [`with_clock`](crate::with_clock) does, and runs the threads. Once all have ended, the
+/// visitors answer whether they want another generation. If they do, the newest state continues in a new
+/// history with the plan's room, with new nodes and `count` threads; and so on.
 ///
-/// Stamps begin anew in each generation. Where the plan stores no records, each node begins with what the one of its
-/// number held that was still valid at the end; else with nothing. What was refused after the opening stands in the
-/// result, beside what the generations before gave.
+/// Stamps begin at 0 again in each generation. If the plan stores no records, each node begins with the entries
+/// of the one of its number that were still valid at the end; otherwise it begins empty. An error after the
+/// opening is in the result, next to the results of the generations before.
 pub fn with_generations_at<A, D, O, V, C, R>(
     rt: &R,
     alloc: Global,
@@ -302,7 +305,7 @@ where
     })
 }
 
-/// One generation after the other, until the visitors want no other or one is refused.
+/// Runs one generation after the other, until the visitors want no other or one fails.
 #[tactic(auto, using(crate::proofs::Turns::failed_so))]
 fn go_on<A, D, V, C, R>(
     rt: &R,

@@ -1,17 +1,17 @@
-//! A service of one's own: a database, its pincushion and its nodes, the clients that read and write over
-//! them, and the keeper who keeps them.
+//! A complete service: a database, its pincushion and its nodes, the clients that read and write over them, and
+//! their maintenance.
 //!
-//! [`with_site`] makes all of it by a [`Plan`], writes an opening, and starts threads. A [`Visitor`] does what
-//! each of these does, by a [`SiteClient`] of its own: that runs a [`Page`] in one read-only transaction and a
+//! [`with_site`] makes all of it by a [`Plan`], writes an opening, and starts threads. A [`Visitor`] is the
+//! work of each thread, by a [`SiteClient`] of its own: that runs a [`Page`] in one read-only transaction and a
 //! [`Change`] in one read-write transaction, which it tries again after a conflict. A [`Keeper`] pins the
-//! present, lets the nodes take events and tidies, and tells how much room is left.
+//! present, lets the nodes take events, drops what no transaction can read, and reports how much room is left.
 //!
-//! It is the one library that a service lists: what pages, changes and functions name of the libraries below is
-//! passed on, and so are the definitions that a clause may name.
+//! It is the only library that a service must list: it passes on the types of the libraries below that pages,
+//! changes and functions use, and the definitions that a clause may name.
 //!
-//! [`with_generations`] does so again and again, as often as the visitors are [`Returning`]: each [`Generation`]
-//! has a new history, which begins with the state of the one before, and new nodes. Where no records are stored, these
-//! begin with what was still valid.
+//! [`with_generations`] does so again and again, as long as the visitors are [`Returning`]: each [`Generation`]
+//! has a new history, which begins with the state of the one before, and new nodes. If no records are stored,
+//! these begin with the entries that were still valid.
 #![tactic(auto)]
 
 mod error;

@@ -1,4 +1,4 @@
-//! The opening of a site.
+//! Opening a site.
 ghost use Rattle.std.specs.Prelude.{◌≡◌, Err, IfErr, IfOk, length, vec_len};
 ghost use Rattle.txc_carry.specs.Rooms.{IsHistoryFor};
 ghost use Rattle.txc_db.specs.Shared.{IsDatabaseOf};
@@ -23,22 +23,22 @@ use txc_visits::{
     over_new_histories, registry,
 };
 
-/// What a site gave.
+/// Result of a site.
 #[derive(Drop)]
 pub struct Visited<O, T> {
-    /// What the opening gave, with its commit.
+    /// Result of the opening, with its commit.
     pub opening: Written<O>,
-    /// What each thread gave, in the order of their numbers.
+    /// Result of each thread, in the order of their numbers.
     pub outputs: Vec<T>,
-    /// What the site's own keeper did, or why there was none; nothing where the plan has none.
+    /// Result of the automatic maintenance, or its error; `None` if the plan has none.
     pub tended: Option<Result<Tended, SiteError>>,
-    /// What the threads did in all.
+    /// Counts of the threads' work in all.
     pub numbers: Numbers,
-    /// The state that they left.
+    /// The state after them.
     pub last: LastState,
 }
 
-/// A new database, as the plan says.
+/// Makes a new database, by the plan.
 fn new_core(alloc: Global, plan: Plan) -> Result<DbCore, SiteError>
     requires { IsPlan plan }
     ensures room { IfOk result (λ core. IsHistoryFor plan.events core.events) }
@@ -50,7 +50,7 @@ fn new_core(alloc: Global, plan: Plan) -> Result<DbCore, SiteError>
     Ok(core)
 }
 
-/// Opens a site as [`with_clock`] does, at a clock that counts how often it was looked at.
+/// Opens a site as [`with_clock`] does, at a clock that counts how many times it was read.
 pub fn with_site<A, D, O, V, R>(
     rt: &R,
     alloc: Global,
@@ -76,13 +76,13 @@ where
 }
 
 /// Opens a site: makes it by the plan, writes the opening in one read-write transaction, and then starts
-/// `count` threads, each of which visits by a client of its own. Returns once all have ended.
+/// `count` threads, each with a client of its own. Returns once all have ended.
 ///
-/// Where the plan says so, one more thread keeps the site at the clock, until the visitors have ended. Where none
-/// can be made, nobody keeps it.
+/// If the plan asks for it, one more thread maintains the site at the clock, until the others have ended. If
+/// that thread cannot be made, there is no maintenance.
 ///
-/// The threads have the numbers from 0, and outputs come in that order. Where no thread can be made, some run
-/// one after the other, so that none may wait for another.
+/// The threads have the numbers from 0, and outputs come in that order. If a thread cannot be made, some run
+/// one after the other, so none may wait for another.
 #[tactic(auto, using(crate::proofs::Opened::visit_so, txc_visits::proofs::Tended::tended_at))]
 pub fn with_clock<A, D, O, V, C, R>(
     rt: &R,
@@ -132,7 +132,7 @@ where
     })
 }
 
-/// A new database, to which the opening was written.
+/// Makes a new database, and writes the opening to it.
 #[tactic(auto, using(crate::proofs::Opened::database_so, crate::proofs::Opened::opening_so))]
 pub(crate) fn opened<A, D, O, R>(
     rt: &R,
@@ -157,7 +157,7 @@ where
     open::<A, D, O, Brand, R>(rt, alloc, plan, core, opening)
 }
 
-/// Writes the opening to the database, in one try. Its row is the named one.
+/// Writes the opening to the database, in one try. Its history is the named one.
 fn open<A, D, O, J, R>(
     rt: &R,
     alloc: Global,

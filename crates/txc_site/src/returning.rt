@@ -9,27 +9,28 @@ use txc_visits::{Numbers, Visitor};
 pub struct Generation<T> {
     /// Its number, from 0 on.
     pub number: usize,
-    /// The history of its database as it began.
+    /// The history of its database at its beginning.
     pub begun: HistoryFront,
     /// The whole history of its database, once all threads had ended.
     pub ended: HistoryFront,
-    /// What each thread gave, in the order of their numbers.
+    /// Result of each thread, in the order of their numbers.
     pub outputs: Vec<T>,
-    /// What the site's own keeper did, or why there was none; nothing where the plan has none.
+    /// Result of the automatic maintenance, or its error; `None` if the plan has none.
     pub tended: Option<Result<Tended, SiteError>>,
-    /// What the threads did in all.
+    /// Counts of the threads' work in all.
     pub numbers: Numbers,
 }
 
-/// Visitors who may come again, to a next generation of the site.
+/// Visitors that may want another generation of the site.
 pub trait Returning<A: App, D: Definition>: Visitor<A, D> {
     ghost use Rattle.std.specs.Prelude.{Bool};
     ghost use Rattle.txc_site.specs.declared.returning.Generation.{Generation};
 
-    // What the answer says of a generation.
+    // The relation of the answer to a generation.
     ghost goes: { Self → Generation Self.Output → Bool → Type 0 };
 
-    /// Whether the visitors come again after this generation. Its history is shown once, and then given back.
+    /// Returns `true` if the visitors want another generation after this one. The generation is dropped
+    /// afterwards.
     fn goes_on(&self, generation: &Generation<Self::Output>) -> bool
         ensures { goes self.now generation.now result };
 }

@@ -1,4 +1,4 @@
--- What slots hold, and what their changes make of them.
+-- The values of slots, and the effect of changes on them.
 use Rattle.std.specs.Prelude.{◌≡◌, Bool, false, List, [], ◌∷◌, ◌++◌, map, option_to_list, Option, Some}
 use Rattle.std.specs.declared.cmp.Ordering.{Ordering}
 use Rattle.std.specs.Ordering.{nat_cmp, ordering_then, is_eq}
@@ -16,7 +16,7 @@ abbrev pub is_key : SlotKey → SlotKey → Bool
 is_key k l = is_eq (key_cmp k l)
 
 module _ {V : Type 0} where
-  -- the key with its value, and nothing where it is vacant
+  -- the key with its value, or nothing if it is vacant
   abbrev pub held_at : SlotKey → Option V → List (SlotKey × V)
   held_at k value = map (λ v. (k, v)) (option_to_list value)
 

@@ -1,5 +1,5 @@
-//! Slots in an ordered map: each key of it has a value, or is vacant. To change a slot that is there takes no memory, and so
-//! such changes are taken back without any.
+//! Slots in an ordered map: each of its keys has a value, or is vacant. Changing an existing slot needs no new
+//! memory in the map, so logged changes can be undone without allocation.
 #![tactic(auto)]
 
 mod slots;

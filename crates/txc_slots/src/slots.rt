@@ -7,7 +7,7 @@ use std::alloc::AllocError;
 use std::collections::BTreeMap;
 use std::mem;
 
-/// Where a slot stands: by a table, a number in it, and an id.
+/// Key of a slot: a table, a number in that table, and an id.
 #[derive(Clone, Copy, Debug, PartialEq, Eq, PartialOrd, Ord)]
 pub struct SlotKey {
     pub table: u8,
@@ -15,7 +15,7 @@ pub struct SlotKey {
     pub id: u32,
 }
 
-/// The value at the key, if the key has one.
+/// Returns the value at the key, or `None` if the slot is vacant or missing.
 pub fn value_at<'a, V>(slots: &'a BTreeMap<SlotKey, Option<V>>, key: SlotKey) -> Option<&'a V>
     ensures { MatchOption result ((v : V) → lookup (is_key key) slots.now.entries ≢ Some (Some v))
         (λ v. lookup (is_key key) slots.now.entries ≡ Some (Some v.now)) }
@@ -26,7 +26,8 @@ pub fn value_at<'a, V>(slots: &'a BTreeMap<SlotKey, Option<V>>, key: SlotKey) ->
     }
 }
 
-/// Makes a vacant slot at the key, if none is there.
+/// Makes a vacant slot at the key if there is none. Fails if there is no memory for it; the values of all keys
+/// stay as they were.
 pub fn make<V: Drop>(
     slots: &mut BTreeMap<SlotKey, Option<V>>,
     key: SlotKey,
@@ -48,7 +49,8 @@ fn put_in<V: Drop>(slots: &mut BTreeMap<SlotKey, Option<V>>, key: SlotKey, value
     }
 }
 
-/// Puts a value in the slot of the key, or leaves it vacant, and notes what was there. It is refused if there is no slot.
+/// Sets the slot of the key to the value, or to vacant, and appends the old value to `log`. Fails, and changes
+/// nothing in the map, if the key has no slot or there is no memory for the log.
 pub fn change<V: Drop>(
     slots: &mut BTreeMap<SlotKey, Option<V>>,
     log: &mut Vec<(SlotKey, Option<V>)>,
@@ -68,7 +70,7 @@ pub fn change<V: Drop>(
     Ok(())
 }
 
-/// Takes back the changes that were noted, the last one first. It takes no memory.
+/// Undoes the logged changes, the last one first. Does not allocate.
 pub fn take_back<V: Drop>(
     slots: &mut BTreeMap<SlotKey, Option<V>>,
     mut log: Vec<(SlotKey, Option<V>)>,
@@ -80,7 +82,7 @@ pub fn take_back<V: Drop>(
     }
 }
 
-/// Drops the slot of the key, if it is vacant.
+/// Drops the slot of the key if it is vacant.
 pub fn drop_vacant<V: Drop>(slots: &mut BTreeMap<SlotKey, Option<V>>, key: SlotKey)
     ensures same { held slots.new.entries ≡ held slots.old.entries }
     ensures gone { lookup (is_key key) slots.new.entries ≢ Some None }
@@ -91,7 +93,7 @@ pub fn drop_vacant<V: Drop>(slots: &mut BTreeMap<SlotKey, Option<V>>, key: SlotK
     }
 }
 
-/// Lets go of what was noted, and drops the slots that the changes left vacant.
+/// Drops the log, and each slot that its changes left vacant.
 pub fn settle<V: Drop>(slots: &mut BTreeMap<SlotKey, Option<V>>, mut log: Vec<(SlotKey, Option<V>)>)
     ensures same { held slots.new.entries ≡ held slots.old.entries }
     ensures gone { AllByRecursion (λ c. lookup (is_key c.0) slots.new.entries ≢ Some None) log.items }

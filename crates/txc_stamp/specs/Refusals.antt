@@ -1,4 +1,4 @@
--- Why there is no such stamp, span or reach.
+-- Errors of making a stamp, a span or a reach.
 use Rattle.std.specs.Prelude.{◌≡◌, ◌⊎◌, ℕ, ◌+◌, ◌<◌, ◌≤◌}
 use Rattle.txc_stamp.specs.declared.error.StampError.{StampError}
 use Rattle.txc_stamp.specs.declared.error.StampError.TheVariants.{TooLarge, Empty}
@@ -9,8 +9,8 @@ abbrev pub IsStampRefusal : ℕ → StampError → Type 0
 IsStampRefusal number (TooLarge named) = (named ≡ number) × (LAST_STAMP < number)
 IsStampRefusal number Empty = ⊥
 
--- Of two numbers, of which the first is at most `LAST_STAMP` and the second at most `limit`, the first that
--- is too large is named.
+-- the error names the first number that is too large: `first` is at most `LAST_STAMP`, and `second` at most
+-- `limit`
 abbrev pub IsFirstTooLarge : ℕ → ℕ → ℕ → ℕ → Type 0
 IsFirstTooLarge first second limit named =
     ((named ≡ first) × (LAST_STAMP < first)) ⊎ ((named ≡ second) × (first ≤ LAST_STAMP) × (limit < second))
@@ -20,7 +20,7 @@ abbrev pub IsSpanRefusal : ℕ → ℕ → StampError → Type 0
 IsSpanRefusal lo end (TooLarge named) = IsFirstTooLarge lo end (LAST_STAMP + 1) named
 IsSpanRefusal lo end Empty = (lo ≤ LAST_STAMP) × (end ≤ LAST_STAMP + 1) × (end ≤ lo)
 
--- one of them is too large, or else the last known stamp lies below the first
+-- one of them is too large, or else the last known stamp is below the first
 abbrev pub IsReachRefusal : ℕ → ℕ → StampError → Type 0
 IsReachRefusal lo known (TooLarge named) = IsFirstTooLarge lo known LAST_STAMP named
 IsReachRefusal lo known Empty = (lo ≤ LAST_STAMP) × (known ≤ LAST_STAMP) × (known < lo)

@@ -9,8 +9,8 @@ use crate::stamp::Stamp;
 use std::fmt;
 use std::marker::Model;
 
-/// Where a result is known to hold: at every stamp from `lo` to `known`. If it is *still* valid, no later
-/// event that was processed has changed it, and its span grows with what is processed.
+/// Validity interval of a result: it is known to hold at every stamp from `lo` to `known`, both included. If it
+/// is *still* valid, no later processed event has changed it, and its span grows with the processed events.
 #[derive(Clone, Copy, Debug, PartialEq, Eq)]
 pub struct Reach {
     lo: Stamp,
@@ -32,7 +32,8 @@ impl Model for Reach {
 }
 
 impl Reach {
-    /// From the stamp `lo` to the stamp `known`, given as numbers.
+    /// Makes the reach from the stamp `lo` to the stamp `known`, given as numbers. Fails if one is beyond
+    /// [`crate::LAST_STAMP`], or if `known` is below `lo`.
     pub fn new(lo: u32, known: u32, still: bool) -> Result<Reach, StampError>
         ensures answer { IfOk result (λ r. r ≡ record { lo = lo; known = known; still = still }) }
         ensures only_if { OnOk result ((lo ≤ known) × (known ≤ LAST_STAMP)) }
@@ -41,7 +42,7 @@ impl Reach {
         Reach::from_stamps(Stamp::new(lo)?, Stamp::new(known)?, still)
     }
 
-    /// From `lo` to `known`.
+    /// Makes the reach from `lo` to `known`. Fails if `known` is below `lo`.
     pub fn from_stamps(lo: Stamp, known: Stamp, still: bool) -> Result<Reach, StampError>
         ensures answer { IfOk result (λ r. r ≡ record { lo = lo; known = known; still = still }) }
         ensures only_if { OnOk result (lo ≤ known) }
@@ -53,14 +54,14 @@ impl Reach {
         Ok(Reach { lo, known, still })
     }
 
-    /// The first stamp at which the result is known to hold.
+    /// Returns the first stamp at which the result is known to hold.
     pub fn lo(self) -> Stamp
         ensures { result ≡ self.lo }
     {
         self.lo
     }
 
-    /// The last stamp at which the result is known to hold.
+    /// Returns the last stamp at which the result is known to hold.
     pub fn known(self) -> Stamp
         ensures answer { result ≡ self.known }
         ensures ordered { self.lo ≤ self.known }
@@ -68,21 +69,22 @@ impl Reach {
         self.known
     }
 
-    /// Whether the result is still valid after `known`, as far as events were processed.
+    /// Returns `true` if the result is still valid after `known`, as far as events were processed.
     pub fn is_still(self) -> bool
         ensures { result ≡ self.still }
     {
         self.still
     }
 
-    /// Whether the result is known to hold at the stamp.
+    /// Returns `true` if the result is known to hold at the stamp.
     pub fn holds(self, stamp: Stamp) -> bool
         ensures { IsTrue result ↔ Holds self stamp }
     {
         stamp >= self.lo && stamp <= self.known
     }
 
-    /// Where both hold. It is still valid where both are, and none where no stamp is held by both.
+    /// Returns the intersection of both reaches, or `None` if they share no stamp. It is still valid if both
+    /// are.
     pub fn meet(self, other: Reach) -> Option<Reach>
         ensures { result ≡ meet_of self other }
     {
@@ -91,7 +93,7 @@ impl Reach {
         Reach::from_stamps(lo, known, self.still && other.still).ok()
     }
 
-    /// The stamps at which the result holds once the events up to `processed` are processed.
+    /// Returns the stamps at which the result holds once the events up to `processed` are processed.
     pub fn span(self, processed: Stamp) -> Span
         ensures { result ≡ span_of processed self }
     {
@@ -101,7 +103,7 @@ impl Reach {
         }
     }
 
-    /// The end of its span.
+    /// Returns the end of that span: the first stamp after it.
     pub fn end(self, processed: Stamp) -> u32
         ensures answer { result ≡ end_at processed self }
         ensures bound { result ≤ MOST_STAMP + 1 }
@@ -109,7 +111,7 @@ impl Reach {
         self.shown(processed).known.number() + 1
     }
 
-    /// The reach with `known` raised to the last stamp of its span, as an answer shows it.
+    /// Returns the reach with `known` raised to the last stamp of its span, as a lookup returns it.
     pub fn shown(self, processed: Stamp) -> Reach
         ensures { result ≡ shown processed self }
     {
@@ -122,7 +124,7 @@ impl Reach {
         self
     }
 
-    /// The reach with another last stamp at which the result is known to hold.
+    /// Returns the reach with another last known stamp, at least `lo`.
     pub fn with_known(self, known: u32) -> Reach
         requires ordered { self.lo ≤ known }
         requires bound { known ≤ MOST_STAMP }
@@ -134,7 +136,7 @@ impl Reach {
         }
     }
 
-    /// The reach, no longer valid after `known`.
+    /// Returns the reach, no longer valid after `known`.
     pub fn closed(self) -> Reach
         ensures { result ≡ closed_at self.known self }
     {
@@ -144,7 +146,7 @@ impl Reach {
         }
     }
 
-    /// The reach up to the stamp before this one, from which on the result is no longer valid.
+    /// Returns the reach up to the stamp before `stamp`, no longer valid from `stamp` on.
     pub fn close_before(self, stamp: Stamp) -> Reach
         requires { self.known < stamp }
         ensures { result ≡ closed_at (stamp - 1) self }
@@ -159,7 +161,7 @@ impl fmt::Display for Reach {
 
     ghost output = { λ reach. Some (reach_text reach) };
 
-    /// `[0,3) still`, or `closed`.
+    /// Writes it as `[0,3) still` or `[0,3) closed`: the first known stamp, and the one after the last.
     fn fmt<W: fmt::Write>(&self, f: &mut fmt::Formatter<W>) -> fmt::Result {
         let lo = self.lo();
         let end = self.known().number() + 1;

@@ -8,7 +8,7 @@ use crate::stamp::{LAST_STAMP, Stamp};
 use std::fmt;
 use std::marker::Model;
 
-/// The stamps from a first one up to, and without, an end. It holds at least one stamp.
+/// Range of stamps from a first one up to, and without, an end. It has at least one stamp.
 #[derive(Clone, Copy, Debug, PartialEq, Eq)]
 pub struct Span {
     pub(crate) lo: Stamp,
@@ -30,7 +30,8 @@ impl Model for Span {
 }
 
 impl Span {
-    /// The stamps from `lo` to `end - 1`.
+    /// Makes the span of the stamps from `lo` to `end - 1`. Fails if `lo` is beyond [`crate::LAST_STAMP`],
+    /// `end` beyond the stamp after it, or `end` is at most `lo`.
     pub fn new(lo: u32, end: u32) -> Result<Span, StampError>
         ensures answer { IfOk result (λ s. s ≡ record { lo = lo; end = end }) }
         ensures only_if { OnOk result ((lo < end) × (end ≤ LAST_STAMP + 1)) }
@@ -46,7 +47,7 @@ impl Span {
         Ok(Span { lo, end })
     }
 
-    /// The first stamp.
+    /// Returns the first stamp.
     pub fn lo(self) -> Stamp
         ensures answer { result ≡ self.lo }
         ensures below_end { self.lo < self.end }
@@ -54,7 +55,7 @@ impl Span {
         self.lo
     }
 
-    /// The stamp after the last one, which may be one more than there are stamps.
+    /// Returns the stamp after the last one. It can be one more than the greatest stamp.
     pub fn end(self) -> u32
         ensures answer { result ≡ self.end }
         ensures bound { self.end ≤ MOST_STAMP + 1 }
@@ -62,7 +63,7 @@ impl Span {
         self.end
     }
 
-    /// Whether the stamp lies in it.
+    /// Returns `true` if the stamp is in the span.
     pub fn contains(self, stamp: Stamp) -> bool
         ensures { IsTrue result ↔ IsWithin self stamp }
     {
@@ -76,7 +77,7 @@ impl fmt::Display for Span {
 
     ghost output = { λ span. Some (span_text span) };
 
-    /// `[0,3)`.
+    /// Writes it as `[0,3)`.
     fn fmt<W: fmt::Write>(&self, f: &mut fmt::Formatter<W>) -> fmt::Result {
         let Span { lo, end } = *self;
         write!(f, "[{lo},{end})")

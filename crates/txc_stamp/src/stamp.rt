@@ -5,14 +5,14 @@ use crate::error::StampError;
 use std::fmt;
 use std::marker::Model;
 
-/// The greatest stamp of a stored history, and of those that are made of a number. Only a history that is not stored
-/// goes on after it.
+/// The greatest stamp of a stored history, and the greatest that [`Stamp::new`] makes of a number. Only a ghost
+/// history, of which no records are stored, has later stamps.
 pub const LAST_STAMP: u32 = 1_048_576;
 
 /// The greatest stamp of any history.
 pub const MOST_STAMP: u32 = 4_294_967_294;
 
-/// The state after that many events of the history; a contract sees the number.
+/// Version number of a snapshot: the number of events before it. A contract sees the number.
 #[derive(Clone, Copy, Debug, PartialEq, Eq, PartialOrd, Ord, Hash)]
 pub struct Stamp {
     pub(crate) number: u32,
@@ -32,10 +32,10 @@ impl Model for Stamp {
 }
 
 impl Stamp {
-    /// The state before the first event.
+    /// The stamp before the first event.
     pub const ZERO: Stamp = Stamp { number: 0 };
 
-    /// The state after `number` events.
+    /// Makes the stamp after `number` events. Fails if the number is beyond [`LAST_STAMP`].
     pub fn new(number: u32) -> Result<Stamp, StampError>
         ensures answer { IfOk result (λ s. s ≡ number) }
         ensures only_if { OnOk result (number ≤ LAST_STAMP) }
@@ -47,7 +47,8 @@ impl Stamp {
         Ok(Stamp { number })
     }
 
-    /// The state after so many events, for a caller who knows that there are so few.
+    /// Makes the stamp after that many events, for a caller that has proved that there are at most
+    /// [`MOST_STAMP`].
     pub fn after(events: usize) -> Stamp
         requires { events ≤ MOST_STAMP }
         ensures { result ≡ events }
@@ -57,7 +58,7 @@ impl Stamp {
         }
     }
 
-    /// The number of events before it.
+    /// Returns the number of events before it.
     pub fn number(self) -> u32
         ensures answer { result ≡ self }
         ensures bound { self ≤ MOST_STAMP }
@@ -65,7 +66,7 @@ impl Stamp {
         self.number
     }
 
-    /// The stamp after one event more, if there is one.
+    /// Returns the stamp after one event more, or `None` after [`MOST_STAMP`].
     pub fn next(self) -> Option<Stamp>
         ensures { MatchOption result (self ≡ MOST_STAMP) (λ next. next ≡ self + 1) }
     {
@@ -84,7 +85,7 @@ impl fmt::Display for Stamp {
 
     ghost output = { λ stamp. Some (decimal stamp) };
 
-    /// Its number.
+    /// Writes its number.
     fn fmt<W: fmt::Write>(&self, f: &mut fmt::Formatter<W>) -> fmt::Result {
         let number = self.number();
         write!(f, "{number}")

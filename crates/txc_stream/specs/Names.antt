@@ -1,9 +1,9 @@
--- What a history is called.
+-- The identity of a history.
 use Rattle.std.specs.Prelude.{◌≡◌, ◌⊎◌, ℕ, List, refl}
 use mathlib.Core.Logic.{inl, inr}
 use Rattle.std.specs.Coded.{Coded, code_by, coded⊎, coded_ℕ, coded_list}
 
--- a stored history has the names of its row's cells; one that exists in the proofs alone has a number
+-- the identity of a stored history is the list of the names of its log's cells; that of a ghost one is a number
 pub data Name : Type 0 where
   stored : List ℕ → Name
   unstored : ℕ → Name

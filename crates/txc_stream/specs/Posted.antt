@@ -1,4 +1,4 @@
--- What is posted of a history, and what a walker has found of it.
+-- Posted notes of a history, and the records that a walker has found.
 use Rattle.std.specs.Prelude.{◌≡◌, ℕ, ◌+◌, ◌<◌, ◌⊎◌, Bool, true, false, List, [], ◌∷◌, ◌++◌, length, Option, Some, refl}
 use Rattle.std.specs.Coded.{Coded, code_by, coded×, coded_list, coded_ℕ, coded_bool, coded_option}
 use Rattle.txc_stream.specs.Names.{Name, stored}
@@ -14,7 +14,7 @@ pub record AreLeft {A : Type 0} (all left : List A) : Type 0 where
 
 -- ---- posters
 
--- where the last segment begins, and what was posted in its cells
+-- the number of records before the last segment, and the lists posted in its cells
 pub record PosterValue (T : Type 0) : Type 0 where
   pub from : ℕ
   pub posted : List (Option (List T))
@@ -25,7 +25,7 @@ poster_code {T} c =
     code_by (ℕ × List (Option (List T))) (coded× coded_ℕ (coded_list (coded_option (coded_list c))))
     (λ p. (p.from, p.posted)) (λ p. record { from = p.0; posted = p.1 }) (λ _. refl)
 
--- a poster sees the cells of its segment, of which there are so many
+-- a poster observes the cells of its segment, `SEGMENT_LEN` of them
 pub record IsPoster {T : Type 0} (cells : List ℕ) (shown : Shown (Option (List T))) : Type 0 where
   pub sees : shown.name ≡ stored cells
   pub many : length cells ≡ SEGMENT_LEN
@@ -38,7 +38,7 @@ pub record HasRoomMade {T : Type 0} (old new : PosterValue T) : Type 0 where
 
 -- ---- walkers
 
--- the records that a walker has seen: those that it has taken, and, where it has found one more, this one
+-- the records that a walker has seen: those that it has taken and, if it has found one more, that one
 pub record WalkerValue (T : Type 0) : Type 0 where
   pub list : List T
   pub found : Bool
@@ -54,8 +54,8 @@ pub record IsLastRead {T : Type 0} (read : List (Option (List T))) (list : List 
   pub earlier : List (Option (List T))
   pub is : read ≡ earlier ++ Some list ∷ []
 
--- what a walker has seen is of the named history, what it reads are the cells of its segment, and where it has
--- found a record, it has read what was posted of it
+-- a walker has seen records of the named history, and reads the cells of its segment; if it has found a record,
+-- it has read its posted note
 pub record IsWalker {T : Type 0} (history : Name) (cells : List ℕ) (read : Shown (Option (List T))) (front : Shown T)
     (found : Bool) : Type 0 where
   pub named : front.name ≡ history

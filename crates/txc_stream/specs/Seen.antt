@@ -1,4 +1,4 @@
--- What seen records own of a history.
+-- The ownership of observed records.
 use Rattle.std.specs.Prelude.{◌≡◌, ℕ, ◌<◌, List, [], ◌∷◌, ◌++◌, length, map, slice_index}
 use base.Fml.{Fml, ftrue, ffalse, fsep}
 use base.Fraction.{full_share}
@@ -10,13 +10,13 @@ use Rattle.std.specs.declared.option.Option.TheVariants.{None, Some}
 use Rattle.once_cell.specs.Once.{noted}
 use Rattle.txc_stream.specs.Names.{Name, stored, unstored}
 
--- each record stands in its cell for good
+-- each record stays in its cell
 abbrev pub stand : (R : RattleType) → List R.Denot → List ℕ → Fml
 stand R [] row = ftrue
 stand R (x ∷ xs) [] = ffalse
 stand R (x ∷ xs) (cell ∷ row) = fsep (noted R cell (Some x)) (stand R xs row)
 
--- ---- histories that exist in the proofs alone
+-- ---- ghost histories
 
 -- a list is kept as its ghost values, in an algebra that names no type parameter
 abbrev pub plain_code : Coded Gv
@@ -25,7 +25,7 @@ plain_code = record { code = λ g. g; inj = λ x y p. p }
 abbrev pub growing_lists : Order (List Gv)
 growing_lists = prefixes plain_code
 
--- the list that was written so far, and the right to write more
+-- the list that was written so far, and the right to append to it
 abbrev pub written : (R : RattleType) → ℕ → List R.Denot → Fml
 written R number list = latest growing_lists full_share number (map R.coded.code list)
 
@@ -45,7 +45,7 @@ abbrev pub IsCellAt : Name → ℕ → ℕ → Type 0
 IsCellAt (stored cells) at cell = cell ≡ slice_index cells at
 IsCellAt (unstored number) at cell = ⊥
 
--- the cell of a stored history after so many records
+-- the cell of a stored history after n records
 abbrev pub IsCellAfter : Name → ℕ → ℕ → Type 0
 IsCellAfter (stored cells) n cell = (n < length cells) × (cell ≡ slice_index cells n)
 IsCellAfter (unstored number) n cell = ⊥

@@ -1,4 +1,4 @@
--- What a front shows, and the history that it belongs to.
+-- The records of a front, and the history that it belongs to.
 use Rattle.std.specs.Prelude.{◌≡◌, ℕ, ◌≤◌, List, length, map, refl}
 use Rattle.std.specs.Coded.{Coded, code_by, coded×, coded_list}
 use Rattle.once_cell.specs.Once.{cell_name}
@@ -18,7 +18,7 @@ shown_code {T} c =
     code_by (Name × List T) (coded× coded_name (coded_list c))
     (λ s. (s.name, s.list)) (λ p. record { name = p.0; list = p.1 }) (λ _. refl)
 
--- how many records a row may have room for
+-- the number of records that a log may have room for
 pub record IsCapacity (n : ℕ) : Type 0 where
   pub least : 1 ≤ n
   pub most : n ≤ MAX_CAPACITY
@@ -27,15 +27,15 @@ pub record IsCapacity (n : ℕ) : Type 0 where
 abbrev pub names_of : List (Global × ℕ) → List ℕ
 names_of cs = map cell_name cs
 
--- what a front with these records shows
+-- the value of a front with these records
 abbrev pub shown_by_seen : {T : Type 0} → Seen T → Shown T
 shown_by_seen s = record { name = s.name; list = s.list }
 
--- a stored history has a cell for each of so many records
+-- a stored history has a cell for each of n records
 abbrev pub HasCells : Name → ℕ → Type 0
 HasCells name n = (cells : List ℕ) → name ≡ stored cells → (n ≤ length cells) × (length cells ≤ MAX_CAPACITY)
 
--- so many records were seen, and where they are stored, the row has a cell for each
+-- `len` records were observed, and if they are stored, the log has a cell for each
 pub record IsSeen {T : Type 0} (s : Seen T) (len : ℕ) : Type 0 where
   pub shown : length s.list ≡ len
   pub within : HasCells s.name len

@@ -4,7 +4,7 @@ use Rattle.std.specs.Coded.{Coded, code_by, coded×, coded_list, coded_ℕ}
 use Rattle.txc_stream.specs.Names.{Name, unstored, coded_name}
 use Rattle.txc_stream.specs.Shown.{Shown}
 
--- what the history is called, its records, how many of them have no note any more, and for how many notes more
+-- the history's identity, its records, how many of them have no note any more, and for how many more notes
 -- there is room
 pub record WindowValue (T : Type 0) : Type 0 where
   pub name : Name
@@ -19,7 +19,7 @@ window_code {T} c =
     (λ w. ((w.name, w.list), (w.first, w.room)))
     (λ p. record { name = p.0.0; list = p.0.1; first = p.1.0; room = p.1.1 }) (λ _. refl)
 
--- what a front of the whole of it shows
+-- the value of a front of the whole history
 abbrev pub front_of_window : {T : Type 0} → WindowValue T → Shown T
 front_of_window w = record { name = w.name; list = w.list }
 

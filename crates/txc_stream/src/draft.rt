@@ -1,16 +1,16 @@
-//! Records that exist in the proofs alone.
+//! Ghost records: records of a ghost history, before they are appended.
 
 ghost use Rattle.std.specs.Prelude.{◌≡◌};
 
 use std::marker::{Model, PhantomData};
 
-/// How a record is made of a value that is there when it is drafted.
+/// The function that makes a ghost record of a value, as the value is when the record is drafted.
 pub trait Drafts<X, T> {
     ghost record_of: { X → T };
 }
 
-/// A record that is written down before the step that it tells of, and appended once the step is done. It
-/// takes no bytes.
+/// A ghost record, made before the step that it describes, and appended once the step is done. It is
+/// zero-sized.
 pub struct Draft<T> {
     marker: PhantomData<*const T>,
     pub ghost value: { T },
@@ -29,7 +29,7 @@ impl<T> Drop for Draft<T> {
 }
 
 impl<T> Draft<T> {
-    /// Of what is there now. There is nothing to run.
+    /// Drafts the record of the value as it is now. It has no code.
     pub fn of<X, M: Drafts<X, T>>(about: &X) -> Draft<T>
         ensures { result.value ≡ M.record_of about.now }
     {

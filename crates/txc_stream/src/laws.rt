@@ -1,7 +1,7 @@
 //! Prefixes of lists. Each function is a lemma: it has no code.
 //!
-//! What was seen of a row only grows, so what a caller knows of a front's list has to carry over to each
-//! longer one. These lemmas do it. They hold of all lists, and `proofs/Offered.antt` has their proofs.
+//! The observed prefix of a row only grows, and these lemmas carry over what a caller knows of it to each
+//! longer one. They hold of all lists, and `proofs/Offered.antt` has their proofs.
 ghost use Rattle.std.specs.Prelude.{◌≡◌, ℕ, ◌<◌, ◌≤◌, ◌++◌, ◌∷◌, ◌⊎◌, [], List, length, take, Some, slice_get};
 ghost use mathlib.Core.List.{IsPrefix};
 
@@ -15,13 +15,13 @@ pub fn prefix_of_prefix<T>()
     ensures { (xs ys zs : List T) → IsPrefix xs ys → IsPrefix ys zs → IsPrefix xs zs }
 {}
 
-/// A prefix is at most as long as the whole, and one that is as long is the whole.
+/// A prefix is at most as long as the list, and one of equal length is the list.
 pub fn prefix_length<T>()
     ensures at_most { (xs ys : List T) → IsPrefix xs ys → length xs ≤ length ys }
     ensures whole { (xs ys : List T) → IsPrefix xs ys → length ys ≤ length xs → xs ≡ ys }
 {}
 
-/// What stands in a prefix stands in the whole, at the same place, and the two begin alike.
+/// An element of a prefix is in the list at the same place, and both begin alike.
 pub fn prefix_places<T>()
     ensures stands { (xs ys : List T) (at : ℕ) (x : T) → IsPrefix xs ys
         → slice_get xs at ≡ Some x → slice_get ys at ≡ Some x }
@@ -31,15 +31,15 @@ pub fn prefix_places<T>()
         → n ≤ length xs → take n ys ≡ take n xs }
 {}
 
-/// A list is a prefix of itself with more after it. One more record stands at the place that the old length
+/// A list is a prefix of itself with more appended. An appended record is at the place that the old length
 /// names.
 pub fn prefix_of_appended<T>()
     ensures more { (xs ys : List T) → IsPrefix xs (xs ++ ys) }
     ensures place { (xs : List T) (x : T) → slice_get (xs ++ x ∷ []) (length xs) ≡ Some x }
 {}
 
-/// Two prefixes of one list agree. Of two lists that agree, the shorter is the prefix, and one of the two
-/// that begins with the longer is the longer.
+/// Of two prefixes of one list, one is a prefix of the other. If one of two lists is a prefix of the other, the
+/// shorter is that prefix; and of the two, the one that has the longer as a prefix is the longer.
 pub fn longer_of_two<T>()
     ensures agree { (xs ys zs : List T) → IsPrefix xs zs → IsPrefix ys zs
         → IsPrefix xs ys ⊎ IsPrefix ys xs }

@@ -1,16 +1,16 @@
-//! Histories that only grow, and fronts that prove what was seen of them. A history is stored in a row of
-//! cells, each set at most once, or exists in the proofs alone.
+//! Histories that only grow, and fronts: prefixes of them that a thread has observed. A history is stored in a
+//! row of cells, each set at most once, or is ghost: it exists for the verifier only.
 //!
-//! A row is shared by `&`: no call waits, and none but `new` takes memory. Nobody reads
-//! a row from its end. A caller keeps a [`Front`], the records that it has seen so far, and each call that
-//! sees one more lengthens it. Of any two fronts of one history, one is a prefix of the other, whichever
-//! threads they come from: that is what two callers who compare notes can rely on.
+//! Threads share a row by `&`: no call waits, and only `new` allocates. A caller keeps a [`Front`], the records
+//! that it has seen so far, and each call that sees one more lengthens it. Of any two fronts of one history,
+//! one is a prefix of the other, whichever threads they come from: callers who compare fronts can rely on that.
 //!
-//! A history that is not stored takes no memory and has no end. Whoever has its [`Pen`] lengthens it, and each
-//! front of it shows a beginning of what the pen has written.
+//! A ghost history uses no memory and has no end. The owner of its [`Pen`] lengthens it, and each front of it
+//! shows a prefix of what the pen has written.
 //!
-//! Of such a history a [`Window`] keeps a note of each of the last records. Notes can also be posted, in segments
-//! of cells: a [`Walker`] reads them one after the other, and a segment that each has passed is dropped.
+//! A [`Window`] keeps a note of each of the last records of a ghost history. Notes can also be posted, in
+//! segments of cells: a [`Walker`] reads them one after the other, and a segment that each walker has passed is
+//! dropped.
 #![tactic(auto)]
 
 mod draft;

@@ -1,4 +1,4 @@
-//! The right to lengthen a history that exists in the proofs alone.
+//! The token that lengthens a ghost history.
 
 ghost use Rattle.std.specs.Prelude.{◌≡◌, ℕ, ◌+◌, ◌^◌, ◌<◌, ◌++◌, ◌∷◌, [], List, length};
 ghost use Rattle.std.specs.Coded.{coded_list};
@@ -11,7 +11,7 @@ use crate::row::Front;
 use crate::seen::Seen;
 use std::marker::{Model, PhantomData};
 
-/// The only right to lengthen a history that is not stored, and the whole of it. It takes no bytes.
+/// The only token to append to a ghost history, with the list of its records. It is zero-sized.
 pub struct Pen<T> {
     marker: PhantomData<*const T>,
     pub ghost number: { ℕ },
@@ -28,11 +28,11 @@ impl<T> Drop for Pen<T> {
     }
 }
 
-// What it owns names no thread.
+// It can go to another thread: what it owns names no thread.
 unsafe impl<T> Send for Pen<T> {}
 
 impl<T> Pen<T> {
-    /// A history without records.
+    /// Makes the token of a new history, which has no records.
     pub fn new() -> Pen<T>
         ensures { result.list ≡ [] }
     {
@@ -41,7 +41,7 @@ impl<T> Pen<T> {
         }
     }
 
-    /// A front that shows nothing of it yet.
+    /// Returns a front that shows nothing of the history yet.
     pub fn start(&mut self) -> Front<T>
         requires { self.old.list ≡ [] }
         ensures same { self.new ≡ self.old }
@@ -51,8 +51,8 @@ impl<T> Pen<T> {
         Front::of_none(self.seen())
     }
 
-    /// Appends the record, and lengthens the front, which shows the whole of it, by it. Nothing refuses it, and
-    /// it takes no memory.
+    /// Appends the record to the history and to the front, which shows the whole history before and after. It
+    /// cannot fail, and does not allocate.
     pub fn append(&mut self, front: &mut Front<T>, draft: Draft<T>)
         requires name { front.old.name ≡ unstored self.old.number }
         requires whole { front.old.list ≡ self.old.list }
@@ -64,7 +64,7 @@ impl<T> Pen<T> {
         front.show_one_more(self.seen());
     }
 
-    /// What a front shows of it is a prefix of it. This is a lemma: it does nothing when it runs.
+    /// A front's list is a prefix of the history. This is a lemma: it does nothing when it runs.
     pub fn covers(&mut self, front: &Front<T>)
         requires { front.now.name ≡ unstored self.old.number }
         ensures same { self.new ≡ self.old }
@@ -73,12 +73,12 @@ impl<T> Pen<T> {
         self.covers_seen(&front.seen);
     }
 
-    // One record more. There is nothing to run.
+    // Appends one record. It has no code.
     fn write(&mut self, draft: &Draft<T>)
         ensures { self.new ≡ record self.old { list = self.old.list ++ draft.now.value ∷ [] } }
     {}
 
-    // The whole, as something seen.
+    // The whole history, as observed records.
     fn seen(&mut self) -> Seen<T>
         ensures { (self.new ≡ self.old) × (result.name ≡ unstored self.old.number) × (result.list ≡ self.old.list) }
     {
@@ -87,7 +87,7 @@ impl<T> Pen<T> {
         }
     }
 
-    // What was seen of it is a prefix of it. There is nothing to run.
+    // Observed records are a prefix of the history. It has no code.
     fn covers_seen(&mut self, seen: &Seen<T>)
         requires { seen.now.name ≡ unstored self.old.number }
         ensures { (self.new ≡ self.old) × IsPrefix seen.now.list self.old.list }

@@ -1,11 +1,11 @@
-//! What is posted of a history, for those who walk through it.
+//! Notes of a history that a publisher posts for the walkers through it.
 
 ghost use Rattle.std.specs.Prelude.{◌≡◌};
 
 use crate::row::Front;
 use std::marker::{Model, PhantomData};
 
-/// Of which history something is posted, and which notes are of a prefix of it.
+/// The history whose records are posted, and which notes belong to a prefix of it.
 pub trait Posts<T, N> {
     ghost use Rattle.std.specs.Prelude.{List};
     ghost use Rattle.txc_stream.specs.Names.{Name};
@@ -15,7 +15,7 @@ pub trait Posts<T, N> {
     ghost notes: { List T → N → Type 0 };
 }
 
-/// A front of the history up to a record, and a note of it. Contracts see the front's list.
+/// A front of the history up to a record, and the note of this record. Contracts see the front's list.
 #[derive(Drop)]
 pub struct Posted<T, N, P: Posts<T, N>> {
     pub(crate) note: N,

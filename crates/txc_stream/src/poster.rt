@@ -1,4 +1,4 @@
-//! Who posts a history, for those who walk through it.
+//! The publisher of a history, for the walkers through it.
 
 ghost use Rattle.std.specs.Prelude.{◌≡◌, ◌+◌, ◌<◌, ◌++◌, ◌∷◌, [], true, false, length, Some, IfOk, OnOk, OnErr};
 ghost use Rattle.std.specs.Arc.{arc_value};
@@ -13,15 +13,15 @@ use std::alloc::{AllocError, Global};
 use std::marker::Model;
 use std::sync::{Arc, Mutex, Wait};
 
-/// Memory for what is posted of one record.
+/// Memory for the posting of one record, allocated in advance.
 #[derive(Drop)]
 pub struct Slip<T, N, P: Posts<T, N>> {
     cell: Box<Option<Posted<T, N, P>>>,
 }
 
-/// Posts the records of a history as they are appended. It stands in the last segment.
+/// Publishes the records of a history as they are appended. It holds the last segment.
 ///
-/// Contracts see where this segment begins, and what was posted in it.
+/// Contracts see the number of records before this segment, and the lists posted in it.
 #[derive(Drop)]
 pub struct Poster<T, N, P: Posts<T, N>> {
     shelf: Arc<Mutex<Shelf<T, N, P>>>,
@@ -43,7 +43,8 @@ impl<T, N, P: Posts<T, N>> Model for Poster<T, N, P> {
 }
 
 impl<T: Drop, N: Drop, P: Posts<T, N>> Poster<T, N, P> {
-    /// Nothing is posted yet of the named history. The records after the first `from` are to be.
+    /// Makes a poster of the named history with nothing posted. The records after the first `from` are posted
+    /// from now on. Fails only if memory cannot be allocated.
     pub fn new(alloc: Global, from: usize) -> Result<Poster<T, N, P>, AllocError>
         ensures { IfOk result (λ poster. poster ≡ record { from = from; posted = [] }) }
     {
@@ -55,7 +56,7 @@ impl<T: Drop, N: Drop, P: Posts<T, N>> Poster<T, N, P> {
         Ok(Poster { shelf, tail, shown })
     }
 
-    /// Memory for one record more. Where it is refused, what was posted is as it was.
+    /// Allocates memory for the posting of one more record. If that fails, what was posted is unchanged.
     pub fn prepare(&mut self, rt: &impl Wait, alloc: Global) -> Result<Slip<T, N, P>, AllocError>
         ensures made { OnOk result (HasRoomMade self.old self.new) }
         ensures unchanged { OnErr result (self.new ≡ self.old) }
@@ -67,7 +68,7 @@ impl<T: Drop, N: Drop, P: Posts<T, N>> Poster<T, N, P> {
         Ok(Slip { cell })
     }
 
-    // Goes on in a new segment, which it puts on the shelf.
+    // Continues in a new segment, which it appends to the shelf.
     fn begin_segment(&mut self, rt: &impl Wait, alloc: Global) -> Result<(), AllocError>
         ensures begun { OnOk result (self.new ≡ record { from = self.old.from + SEGMENT_LEN; posted = [] }) }
         ensures unchanged { OnErr result (self.new ≡ self.old) }
@@ -82,8 +83,8 @@ impl<T: Drop, N: Drop, P: Posts<T, N>> Poster<T, N, P> {
         Ok(())
     }
 
-    /// Posts a note of what the front shows, for those who stand before the last record of it. `false` where its cell was not free: then nobody is
-    /// shown this record, nor a later one.
+    /// Posts the front with its note, for the walkers that have not taken its last record. Returns `false`, and
+    /// posts nothing, if its cell was not free: then no walker is shown this record or a later one.
     pub fn post(&mut self, slip: Slip<T, N, P>, note: N, front: Front<T>) -> bool
         requires history { front.name ≡ P.history }
         requires noted { P.notes front.list note }
@@ -100,7 +101,8 @@ impl<T: Drop, N: Drop, P: Posts<T, N>> Poster<T, N, P> {
         }
     }
 
-    /// One who has taken the records that the front shows, and walks through those that are posted from now on.
+    /// Makes a walker that has taken the records of the front, and is shown those that are posted from now on.
+    /// Fails only if memory cannot be allocated.
     pub fn walker(&self, front: &Front<T>) -> Result<Walker<T, N, P>, AllocError>
         requires { front.now.name ≡ P.history }
         ensures { IfOk result (λ walker.

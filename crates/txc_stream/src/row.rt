@@ -14,7 +14,8 @@ use thiserror::Error;
 /// The most records that a row can have room for.
 pub const MAX_CAPACITY: usize = 1_048_576;
 
-/// A row of cells, each of which is set at most once. Contracts see it as the list of the cells' names.
+/// A row of cells, each of which is set at most once: the storage of an event log. Contracts see it as the list
+/// of the cells' names.
 pub struct EventRow<T> {
     cells: Vec<OnceBox<T>>,
 }
@@ -37,12 +38,12 @@ impl<T: Drop> Drop for EventRow<T> {
     }
 }
 
-/// A prefix of a history, as somebody has seen it.
+/// An observed prefix of a history.
 ///
-/// Contracts see it as a record: `name`, what its history is called, and `list`, the records seen. A history
-/// that is stored in a row is called by the names of all cells of that row. A front
-/// has neither a lifetime nor a handle, so whoever owns the row can own its fronts too. It takes as much as a
-/// number, however many records it shows.
+/// Contracts see it as a record: `name`, the identity of its history, and `list`, the records seen. The
+/// identity of a stored history is the list of the names of all cells of its row. A front has neither a
+/// lifetime nor a handle, so the owner of a row can own its fronts too. It is as large as a number, however
+/// many records it shows.
 #[derive(Drop)]
 pub struct Front<T> {
     pub(crate) seen: Seen<T>,
@@ -61,19 +62,19 @@ impl<T> Model for Front<T> {
     ghost invariant = { λ f. IsSeen f.seen f.len };
 }
 
-/// Why a record was not appended. Either way the record comes back.
+/// Errors of appending a record. Each returns the record.
 #[derive(Drop, Error)]
 pub enum AppendError<T> {
     /// The front shows as many records as the row has cells.
-    #[error("the row is full")]
+    #[error("the log has no room for another record")]
     Full(Box<T>),
-    /// The cell after the front holds a record that the front does not show yet.
-    #[error("another record stands in the cell")]
+    /// The cell after the front already holds a record, which the front does not show yet.
+    #[error("the next cell of the log has another record")]
     Taken(Refused<T>),
 }
 
-/// A record that found its cell set. It comes with a note that has seen the record which stands there, so
-/// that nobody can make one up.
+/// A record that was not appended, since its cell was set. It comes with a note of the record in that cell, so
+/// that no caller can make one up.
 #[derive(Drop)]
 pub struct Refused<T> {
     /// The record that was not appended.
@@ -93,7 +94,7 @@ impl<T> fmt::Debug for AppendError<T> {
 }
 
 impl<T> EventRow<T> {
-    /// A row with room for `capacity` records, no cell of which is set.
+    /// Makes a row with room for `capacity` records, all cells unset. Fails only if memory cannot be allocated.
     pub fn new(alloc: Global, capacity: usize) -> Result<EventRow<T>, AllocError>
         requires least { 1 ≤ capacity }
         requires most { capacity ≤ MAX_CAPACITY }
@@ -106,7 +107,7 @@ impl<T> EventRow<T> {
         Ok(EventRow { cells })
     }
 
-    /// How many records the row has room for.
+    /// Returns how many records the row has room for.
     pub fn capacity(&self) -> usize
         ensures cells { result ≡ length self.now }
         ensures least { 1 ≤ result }
@@ -115,7 +116,7 @@ impl<T> EventRow<T> {
         self.cells.len()
     }
 
-    // Nothing was seen of the row.
+    // Nothing of the row is observed yet.
     fn unseen(&self) -> Seen<T>
         ensures { (result.name ≡ stored self.now) × (result.list ≡ []) }
     {
@@ -124,7 +125,7 @@ impl<T> EventRow<T> {
         }
     }
 
-    /// A front that shows nothing yet.
+    /// Returns a front that shows nothing yet.
     pub fn start(&self) -> Front<T>
         ensures name { result.name ≡ stored self.now }
         ensures list { result.list ≡ [] }
@@ -136,7 +137,7 @@ impl<T> EventRow<T> {
         }
     }
 
-    /// The record at a place that the front shows, counted from 0.
+    /// Returns the record at a place that the front shows, counted from 0.
     pub fn get<'a>(&'a self, front: &Front<T>, at: usize) -> &'a T
         requires row { front.now.name ≡ stored self.now }
         requires shown { at < length front.now.list }
@@ -153,8 +154,8 @@ impl<T> EventRow<T> {
         }
     }
 
-    /// Lengthens the front by the next record, if there is one by now. That `None` means that its cell was
-    /// not set when it was read is no clause, since a cell may be set at any moment.
+    /// Lengthens the front by the next record, if its cell is set by now, and returns that record. No contract
+    /// states that `None` means an unset cell, since another thread may set it at any time.
     pub fn next<'a>(&'a self, front: &mut Front<T>) -> Option<&'a T>
         requires { front.old.name ≡ stored self.now }
         ensures name { front.new.name ≡ front.old.name }
@@ -175,8 +176,7 @@ impl<T> EventRow<T> {
         Some(record)
     }
 
-    /// Of two fronts of this row, one is a prefix of the other. This is a lemma: it does nothing when it
-    /// runs.
+    /// Of two fronts of this row, one is a prefix of the other. This is a lemma: it does nothing when it runs.
     pub fn agree(&self, one: &Front<T>, other: &Front<T>)
         requires one { one.now.name ≡ stored self.now }
         requires other { other.now.name ≡ stored self.now }
@@ -189,8 +189,8 @@ impl<T> EventRow<T> {
 impl<T: Drop> EventRow<T> {
     ghost use Rattle.txc_stream.specs.Append.{handed_back, IsFull, StandsNext};
 
-    /// Sets the cell after the front to the record, and lengthens the front by it. Nothing else refuses it
-    /// than a full row and a cell that is set; then nothing has changed.
+    /// Sets the cell after the front to the record, and lengthens the front by it. Fails, and changes nothing,
+    /// only if the row is full or the cell is already set.
     pub fn append(&self, front: &mut Front<T>, value: Box<T>) -> Result<(), AppendError<T>>
         requires { front.old.name ≡ stored self.now }
         ensures name { front.new.name ≡ front.old.name }
@@ -199,7 +199,7 @@ impl<T: Drop> EventRow<T> {
         ensures handed_back { IfErr result (λ e. handed_back e ≡ value.value) }
         ensures full { IsFull result ↔ (length front.old.list ≡ length self.now) }
 
-        // Where it is taken, a record was seen in the cell after the front.
+        // With `Taken`, a record was observed in the cell after the front.
         ensures taken { IfErr result (StandsNext self.now (length front.old.list)) }
     {
         let at = front.len();
@@ -223,7 +223,7 @@ impl<T: Drop> EventRow<T> {
 }
 
 impl<T> Front<T> {
-    /// How many records it shows.
+    /// Returns the number of records that it shows.
     pub fn len(&self) -> usize
         ensures shown { result ≡ length self.now.list }
         ensures room { HasCells self.now.name result }
@@ -231,14 +231,14 @@ impl<T> Front<T> {
         self.len
     }
 
-    /// Whether it shows nothing.
+    /// Returns `true` if it shows no record.
     pub fn is_empty(&self) -> bool
         ensures { IsTrue result ↔ (self.now.list ≡ []) }
     {
         self.len() == 0
     }
 
-    /// A second front that shows the same.
+    /// Returns a second front that shows the same records.
     pub fn again(&self) -> Front<T>
         ensures { result ≡ self.now }
     {
@@ -248,7 +248,8 @@ impl<T> Front<T> {
         }
     }
 
-    /// Of two fronts of one history, one is a prefix of the other. This is a lemma: it does nothing when it runs.
+    /// Of two fronts of one history, one is a prefix of the other. This is a lemma: it does nothing when it
+    /// runs.
     pub fn agree(&self, other: &Front<T>)
         requires { self.now.name ≡ other.now.name }
         ensures { IsPrefix self.now.list other.now.list ⊎ IsPrefix other.now.list self.now.list }
@@ -256,7 +257,7 @@ impl<T> Front<T> {
         self.seen.agree(&other.seen);
     }
 
-    /// Takes over what the other front shows beyond this one, so that this one shows the longer list.
+    /// Takes over the records that only the other front shows, so that this one shows the longer list.
     pub fn longer(&mut self, other: &Front<T>)
         requires { other.now.name ≡ self.old.name }
         ensures name { self.new.name ≡ self.old.name }
@@ -271,7 +272,7 @@ impl<T> Front<T> {
         }
     }
 
-    // Shows one record more, which the note knows.
+    // Shows one more record, the one that the note knows.
     fn show(&mut self, note: &Note<T>)
         requires cell { IsCellAfter self.old.name (length self.old.list) note.now.cell }
         requires known { IsSome note.now.known }
@@ -282,7 +283,7 @@ impl<T> Front<T> {
         self.len += 1;
     }
 
-    // A front that shows nothing, where nothing was seen of a history that is not stored.
+    // Makes a front that shows nothing of a ghost history.
     pub(crate) fn of_none(seen: Seen<T>) -> Front<T>
         requires name { ¬ (HasRow seen.name) }
         requires none { seen.list ≡ [] }
@@ -291,7 +292,7 @@ impl<T> Front<T> {
         Front { seen, len: 0 }
     }
 
-    // Shows what was seen, one record more of a history that is not stored.
+    // Shows the observed records, one more than before, of a ghost history.
     pub(crate) fn show_one_more(&mut self, seen: Seen<T>)
         requires name { seen.name ≡ self.old.name }
         requires unstored { ¬ (HasRow seen.name) }

@@ -1,4 +1,4 @@
-//! Segments of cells, and the shelf on which they stand.
+//! Segments of cells, and the shelf: the list of live segments.
 
 ghost use Rattle.std.specs.Prelude.{◌≡◌, ◌<◌, ◌++◌, ◌∷◌, [], true, length, IfOk, IfSome, OnOk, OnErr};
 ghost use Rattle.std.specs.Arc.{arc_value};
@@ -10,10 +10,10 @@ use crate::row::EventRow;
 use std::alloc::{AllocError, Global};
 use std::sync::Arc;
 
-/// How many records a segment has cells for.
+/// The number of records that a segment has cells for.
 pub const SEGMENT_LEN: usize = 1_024;
 
-/// Cells for a run of records: those after the first `from`, in order. A cell that holds nothing was given up.
+/// Cells for a run of records, in order: those after the first `from`. A cell set to nothing was cancelled.
 #[derive(Drop)]
 pub struct Segment<T, N, P: Posts<T, N>> {
     pub(crate) cells: EventRow<Option<Posted<T, N, P>>>,
@@ -29,14 +29,14 @@ impl<T, N, P: Posts<T, N>> Segment<T, N, P> {
     }
 }
 
-/// The segments in which somebody may still stand, the earliest first.
+/// The segments in which a walker or the poster may still be, the earliest first.
 #[derive(Drop)]
 pub(crate) struct Shelf<T, N, P: Posts<T, N>> {
     segments: Vec<Arc<Segment<T, N, P>>>,
 }
 
 impl<T: Drop, N: Drop, P: Posts<T, N>> Shelf<T, N, P> {
-    /// A shelf on which nothing stands.
+    /// Makes an empty shelf.
     pub(crate) fn new(alloc: Global) -> Shelf<T, N, P>
         ensures { result.segments.items ≡ [] }
     {
@@ -45,7 +45,7 @@ impl<T: Drop, N: Drop, P: Posts<T, N>> Shelf<T, N, P> {
         }
     }
 
-    /// A handle of the segment that begins there, if it is on the shelf.
+    /// Returns a handle of the segment that begins at record `from`, if it is on the shelf.
     pub(crate) fn beginning_at(&self, from: usize) -> Option<Arc<Segment<T, N, P>>>
         ensures { IfSome result (λ segment. (arc_value segment).from ≡ from) }
     {
@@ -57,7 +57,7 @@ impl<T: Drop, N: Drop, P: Posts<T, N>> Shelf<T, N, P> {
         None
     }
 
-    // Whether nobody stands in the first segment.
+    // Returns `true` if no walker and no poster holds the first segment.
     fn is_first_left(&self) -> bool
         ensures { result ≡ true → 0 < length self.now.segments.items }
     {
@@ -67,7 +67,7 @@ impl<T: Drop, N: Drop, P: Posts<T, N>> Shelf<T, N, P> {
         }
     }
 
-    // Drops the segments that come before those in which somebody stands.
+    // Drops the segments at the beginning that no one holds.
     #[tactic(auto, using(crate::proofs::Shelves::left_all, crate::proofs::Shelves::left_rest))]
     fn drop_left(&mut self)
         ensures { AreLeft self.old.segments.items self.new.segments.items }
@@ -77,7 +77,8 @@ impl<T: Drop, N: Drop, P: Posts<T, N>> Shelf<T, N, P> {
         }
     }
 
-    /// Puts one segment more on the shelf, and drops those at its beginning in which nobody stands.
+    /// Appends a segment to the shelf, and drops the segments at its beginning that no walker and no poster
+    /// holds.
     #[tactic(auto, using(crate::proofs::Shelves::left_more))]
     pub(crate) fn add(&mut self, segment: Arc<Segment<T, N, P>>) -> Result<(), AllocError>
         ensures added { OnOk result

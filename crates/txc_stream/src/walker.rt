@@ -1,4 +1,4 @@
-//! Who walks through a history, record by record.
+//! A cursor through a history, record by record.
 
 ghost use Rattle.std.specs.Prelude.{◌≡◌, ◌+◌, ◌⊎◌, ◌==◌, true, false};
 ghost use Rattle.std.specs.Arc.{arc_value};
@@ -11,10 +11,10 @@ use crate::segment::{SEGMENT_LEN, Segment, Shelf};
 use std::marker::Model;
 use std::sync::{Arc, Mutex, Wait};
 
-/// Walks through a history, and is shown the note of one record after the other. It holds the segment in which it
-/// stands.
+/// Cursor through a history: it is shown the note of one record after the other. It holds the segment in which
+/// it is.
 ///
-/// Contracts see the records that it has seen: those that it has taken, and, where it has found one more, this one.
+/// Contracts see the records that it has seen: those that it has taken and, if it has found one more, that one.
 #[derive(Drop)]
 pub struct Walker<T, N, P: Posts<T, N>> {
     shelf: Arc<Mutex<Shelf<T, N, P>>>,
@@ -44,7 +44,7 @@ fn is_next(seen: usize, len: usize) -> bool
 }
 
 impl<T, N, P: Posts<T, N>> Walker<T, N, P> {
-    /// One who has taken the records that the front shows.
+    /// Makes a walker that has taken the records of the front.
     pub(crate) fn new(
         shelf: Arc<Mutex<Shelf<T, N, P>>>,
         segment: Arc<Segment<T, N, P>>,
@@ -64,14 +64,14 @@ impl<T, N, P: Posts<T, N>> Walker<T, N, P> {
         }
     }
 
-    /// Whether it has found a record that it has not taken.
+    /// Returns `true` if it has found a record that it has not taken.
     pub fn is_found(&self) -> bool
         ensures { result ≡ self.now.found }
     {
         self.found
     }
 
-    /// The note of what it has seen.
+    /// Returns the note of the records that it has seen.
     pub fn note(&self) -> &N
         requires { self.now.found ≡ true }
         ensures { P.notes self.now.list result.now }
@@ -91,7 +91,7 @@ impl<T, N, P: Posts<T, N>> Walker<T, N, P> {
         self.found = false;
     }
 
-    /// A front that shows the records that it has seen.
+    /// Returns a front that shows the records that it has seen.
     pub fn front(&self) -> &Front<T>
         ensures history { result.now.name ≡ P.history }
         ensures list { result.now.list ≡ self.now.list }
@@ -122,7 +122,7 @@ impl<T: Drop, N: Drop, P: Posts<T, N>> Walker<T, N, P> {
         true
     }
 
-    // Goes on to the next segment, if it is there yet.
+    // Continues in the next segment, if that exists yet.
     fn enter_next(&mut self, rt: &impl Wait) -> bool
         requires { self.old.found ≡ false }
         ensures { self.new ≡ self.old }
@@ -138,9 +138,9 @@ impl<T: Drop, N: Drop, P: Posts<T, N>> Walker<T, N, P> {
         true
     }
 
-    /// Looks for the record after those that it has taken. It waits for a lock only where it reaches the end of
-    /// its segment, and takes no memory. That `false` means that none was posted yet is no clause, since one may be
-    /// posted at any moment.
+    /// Looks for the record after the taken ones, and returns `true` if it has found one. It waits for a lock
+    /// only at the end of its segment, and does not allocate. No contract states that `false` means that none
+    /// was posted, since one may be posted at any time.
     pub fn look(&mut self, rt: &impl Wait) -> bool
         ensures found { result ≡ self.new.found }
         ensures next { (self.new ≡ self.old) ⊎ HasFoundNext self.old self.new }

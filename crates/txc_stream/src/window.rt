@@ -1,4 +1,4 @@
-//! A history that exists in the proofs alone, and notes of its last records.
+//! A ghost history, with notes of its last records.
 
 ghost use Rattle.std.specs.Prelude.{◌≡◌, ◌+◌, ◌^◌, ◌<◌, ◌≤◌, ◌++◌, ◌∷◌, [], length, max, IfSome, OnOk, slice_get};
 ghost use Rattle.txc_stream.specs.Names.{unstored};
@@ -11,15 +11,15 @@ use std::alloc::{AllocError, Global};
 use std::collections::VecDeque;
 use std::marker::{Model, PhantomData};
 
-/// Which notes are of a record.
+/// The notes that belong to a record.
 pub trait Noted<T, N> {
     ghost notes: { T → N → Type 0 };
 }
 
-/// A history that exists in the proofs alone, with a note of each of its last records.
+/// A ghost history, with a note of each of its last records.
 ///
-/// Contracts see what the history is called, its records, how many of them, from the first on, have no note any
-/// more, and for how many notes more there is room.
+/// Contracts see the history's identity, its records, how many of the first have no note any more, and for how
+/// many more notes there is room.
 #[derive(Drop)]
 pub struct Window<T, N, M: Noted<T, N>> {
     pen: Pen<T>,
@@ -49,7 +49,7 @@ impl<T, N, M: Noted<T, N>> Model for Window<T, N, M> {
 }
 
 impl<T, N, M: Noted<T, N>> Window<T, N, M> {
-    /// The history of the pen, which has no records yet.
+    /// Makes a window over the pen's history, which has no records yet.
     pub fn new(alloc: Global, mut pen: Pen<T>) -> Window<T, N, M>
         requires { pen.list ≡ [] }
         ensures name { result.name ≡ unstored pen.number }
@@ -66,7 +66,7 @@ impl<T, N, M: Noted<T, N>> Window<T, N, M> {
         }
     }
 
-    /// The history of the pen, which begins with this record. There is no note of it.
+    /// Makes a window over the pen's history, which begins with this record. It has no note of it.
     pub fn begun(alloc: Global, mut pen: Pen<T>, draft: Draft<T>) -> Window<T, N, M>
         requires { pen.list ≡ [] }
         ensures name { result.name ≡ unstored pen.number }
@@ -84,14 +84,14 @@ impl<T, N, M: Noted<T, N>> Window<T, N, M> {
         }
     }
 
-    /// A front that shows the whole of it.
+    /// Returns a front that shows the whole history.
     pub fn front(&self) -> &Front<T>
         ensures { result.now ≡ front_of_window self.now }
     {
         &self.front
     }
 
-    /// How many of its records have no note any more.
+    /// Returns how many of the first records have no note any more.
     pub fn first(&self) -> usize
         ensures first { result ≡ self.now.first }
         ensures within { result ≤ length self.now.list }
@@ -99,7 +99,7 @@ impl<T, N, M: Noted<T, N>> Window<T, N, M> {
         self.first
     }
 
-    /// The note of the record at a place, counted from 0.
+    /// Returns the note of the record at a place, counted from 0.
     pub fn get(&self, at: usize) -> &N
         requires kept { self.now.first ≤ at }
         requires shown { at < length self.now.list }
@@ -108,7 +108,7 @@ impl<T, N, M: Noted<T, N>> Window<T, N, M> {
         &self.notes[at - self.first]
     }
 
-    /// Makes room for one note more.
+    /// Makes room for one more note. Fails only if memory cannot be allocated; nothing else changes.
     pub fn reserve(&mut self) -> Result<(), AllocError>
         ensures same { self.new ≡ record self.old { room = self.new.room } }
         ensures room { OnOk result (0 < self.new.room) }
@@ -117,7 +117,7 @@ impl<T, N, M: Noted<T, N>> Window<T, N, M> {
         Ok(())
     }
 
-    /// Appends the record that was drafted, with a note of it. Nothing refuses it.
+    /// Appends the drafted record, with its note. It cannot fail.
     pub fn append(&mut self, note: N, draft: Draft<T>)
         requires noted { M.notes draft.value note }
         requires room { 0 < self.old.room }
@@ -133,7 +133,7 @@ impl<T, N, M: Noted<T, N>> Window<T, N, M> {
 }
 
 impl<T, N: Drop, M: Noted<T, N>> Window<T, N, M> {
-    // Drops the first note that is kept.
+    // Drops the first note.
     fn forget_first(&mut self)
         requires { self.old.first < length self.old.list }
         ensures { self.new ≡ record self.old { first = self.old.first + 1; room = self.new.room } }
@@ -143,7 +143,7 @@ impl<T, N: Drop, M: Noted<T, N>> Window<T, N, M> {
         self.first += 1;
     }
 
-    /// Drops the notes of the records before a place. Those from there on stay. It takes no memory.
+    /// Drops the notes of the records before a place, and keeps the others. Does not allocate.
     #[tactic(auto, using(crate::proofs::Noting::forget_more))]
     pub fn forget(&mut self, before: usize)
         requires { before ≤ length self.old.list }

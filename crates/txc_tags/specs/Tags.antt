@@ -1,4 +1,4 @@
--- Tags: what they match and cover, and the sets of them, each table's at most sixteen.
+-- Tags, their matches and covers, and the sets of them, with at most sixteen of each table.
 use Rattle.std.specs.Prelude.{◌≡◌, ℕ, ◌≤◌, Bool, true, false, ◌&&◌, ◌||◌, ◌==◌, nat_le, nat_lt, List, [], ◌∷◌, ◌++◌, filter, count_by, if◌then◌else◌}
 use Rattle.std.specs.List.{list_any, list_all}
 use Rattle.txc_tags.specs.declared.tag.Rows.{Rows}
@@ -45,11 +45,11 @@ same_tag a b = a.table == b.table && same_rows a.rows b.rows
 abbrev pub rows_match : Rows → Rows → Bool
 rows_match rows others = are_all rows || (are_all others || same_rows rows others)
 
--- two tags match where the tables are equal and either is the wildcard or they are equal
+-- two tags match if the tables are equal and one of them is the wildcard or they are equal
 abbrev pub tags_match : Tag → Tag → Bool
 tags_match a b = a.table == b.table && rows_match a.rows b.rows
 
--- two sets match where a tag of one matches a tag of the other
+-- two sets match if a tag of one matches a tag of the other
 abbrev pub sets_match : List Tag → List Tag → Bool
 sets_match xs ys = list_any (λ x. list_any (tags_match x) ys) xs
 
@@ -78,7 +78,7 @@ rows_before (Group n) (Group m) = nat_lt n m
 abbrev pub tag_before : Tag → Tag → Bool
 tag_before a b = nat_lt a.table b.table || (a.table == b.table && rows_before a.rows b.rows)
 
--- each tag stands before all those after it, and so stands once
+-- each tag comes before all those after it, and so occurs once
 abbrev pub is_in_order : List Tag → Bool
 is_in_order [] = true
 is_in_order (x ∷ xs) = list_all (tag_before x) xs && is_in_order xs
@@ -87,7 +87,8 @@ is_in_order (x ∷ xs) = list_all (tag_before x) xs && is_in_order xs
 abbrev pub is_of : ℕ → Tag → Bool
 is_of table tag = tag.table == table
 
--- the one list of a set: in order, a wildcard alone in its table, and of each table at most sixteen tags
+-- the canonical list of a set: in order, only the wildcard if it is in the table, and at most sixteen tags of
+-- each table
 pub record IsCanonical (set : List Tag) : Type 0 where
   pub in_order : is_in_order set ≡ true
   pub alone : (tag : Tag) → has_tag set tag ≡ true → has_tag set (wildcard tag.table) ≡ true
@@ -100,7 +101,7 @@ pub record IsCanonical (set : List Tag) : Type 0 where
 abbrev pub put_in : Tag → List Tag → List Tag
 put_in tag set = filter (λ x. tag_before x tag) set ++ tag ∷ filter (tag_before tag) set
 
--- the wildcard in the place of its table's tags
+-- the set with the table's tags replaced by its wildcard
 abbrev pub wildcarded : ℕ → List Tag → List Tag
 wildcarded table set =
     filter (λ x. nat_lt x.table table) set ++ wildcard table ∷ filter (λ x. nat_lt table x.table) set
@@ -125,7 +126,7 @@ with_tags (tag ∷ tags) set = with_tags tags (with_tag tag set)
 abbrev pub set_of : List Tag → List Tag
 set_of tags = with_tags tags []
 
--- ---- what a set means
+-- ---- the meaning of a set
 
 -- each tag once: the last of those that are equal
 abbrev pub different : List Tag → List Tag
@@ -137,7 +138,7 @@ abbrev pub overflows : ℕ → List Tag → Bool
 overflows table tags =
     has_tag tags (wildcard table) || nat_lt MAX_TAGS (count_by (is_of table) (different tags))
 
--- of the table the set holds the wildcard alone where the list overflows, and else exactly the list's tags
+-- if the list overflows, the set has only the table's wildcard; otherwise it has exactly the list's tags
 pub record KeepsSixteen (table : ℕ) (tags set : List Tag) : Type 0 where
   pub wild : overflows table tags ≡ true → filter (is_of table) set ≡ wildcard table ∷ []
   pub kept : overflows table tags ≡ false

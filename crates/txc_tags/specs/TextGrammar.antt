@@ -1,5 +1,5 @@
--- What a text of a grammar is, and how far a text is like one. A grammar is given by its printer: its texts
--- are those that `write` gives of the values that are `Allowed`.
+-- Texts of a grammar, and prefixes of them. A grammar is given by its printer: its texts are the outputs of
+-- `write` for the values that are `Allowed`.
 use Rattle.std.specs.Prelude.{◌≡◌, ℕ, ◌<◌, ◌≤◌, List, ◌++◌, length, take}
 
 -- the text is that of an allowed value

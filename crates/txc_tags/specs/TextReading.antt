@@ -1,4 +1,4 @@
--- Only proofs need this file: what the readers of a piece of text give. A language is a set of texts.
+-- Only proofs need this file: results of the readers of a piece of text. A language is a set of texts.
 use Rattle.std.specs.Prelude.{◌≡◌, ◌+◌, ◌≤◌, ◌⊎◌, ℕ, List, [], ◌∷◌, ◌++◌, length, All}
 use Rattle.std.specs.List.{flat_map}
 use Rattle.std.specs.Fmt.{decimal}
@@ -24,16 +24,16 @@ IsNumbered word most = Then (IsWord word) (IsNumber most)
 abbrev pub Either : (List ℕ → Type 0) → (List ℕ → Type 0) → List ℕ → Type 0
 Either First Second text = First text ⊎ Second text
 
--- what stands after an item of a joined list, after k items: an end, or a comma and further items
+-- the text after k items of a joined list: an end, or a comma and further items
 abbrev pub IsMore : {V : Type 0} → (V → Type 0) → (V → List ℕ) → List ℕ → (ℕ → Type 0) → ℕ → List ℕ → Type 0
 IsMore {V} Allowed write end Few k text = (items : List V) × All Allowed items × Few (k + length items)
     × (text ≡ flat_map (λ item. 44 ∷ write item) items ++ end)
 
--- an item after k others, and what stands after it
+-- an item after k others, and the text after it
 abbrev pub IsJoined : {V : Type 0} → (V → Type 0) → (V → List ℕ) → List ℕ → (ℕ → Type 0) → ℕ → List ℕ → Type 0
 IsJoined Allowed write end Few k = Then (IsText Allowed write) (IsMore Allowed write end Few (k + 1))
 
--- no text of the language goes on from what was read with the byte that comes next
+-- no text of the language continues the read bytes with the next byte
 abbrev pub NoneGoesOn : (List ℕ → Type 0) → List ℕ → List ℕ → Type 0
 NoneGoesOn Language read rest =
     (byte : ℕ) (others more : List ℕ) → rest ≡ byte ∷ others → Language (read ++ byte ∷ more) → ⊥
@@ -44,7 +44,7 @@ pub record Reads (Language : List ℕ → Type 0) (text piece rest : List ℕ) :
   pub parts : text ≡ piece ++ rest
   pub no_more : NoneGoesOn Language piece rest
 
--- what stands before the rest is the longest prefix of the text that begins a text of the language
+-- the text before the rest is the longest prefix of the text that begins a text of the language
 pub record Stops (Language : List ℕ → Type 0) (text rest : List ℕ) : Type 0 where
   pub read : List ℕ
   pub parts : text ≡ read ++ rest
@@ -56,12 +56,12 @@ pub record GoesWrong (Language : List ℕ → Type 0) (text rest : List ℕ) : T
   pub stops : Stops Language text rest
   pub open_end : Language stops.read → ⊥
 
--- and the whole text is none
+-- and the whole text is not of the language
 pub record IsRefused (Language : List ℕ → Type 0) (text rest : List ℕ) : Type 0 where
   pub stops : Stops Language text rest
   pub none : Language text → ⊥
 
--- items were read, each with a comma after it; where the rest is refused, the text is
+-- items were read, each with a comma after it; if the rest is rejected, the text is
 pub record HasRead {V : Type 0} (Allowed : V → Type 0) (write : V → List ℕ) (end : List ℕ)
     (Few : ℕ → Type 0) (text rest : List ℕ) (items : List V) : Type 0 where
   pub all : All Allowed items

@@ -1,4 +1,5 @@
--- The text of a set of tags: `-` for none, or tags joined by commas, in any order, in either spelling and with repeats.
+-- The text of a set of tags: `-` for none, or tags joined by commas, in any order, in either spelling and with
+-- repeats.
 use Rattle.std.specs.Prelude.{◌≡◌, ℕ, List, [], ◌∷◌, map, codes, All}
 use Rattle.std.specs.List.{join_with_byte}
 use Rattle.txc_tags.specs.declared.tag.Tag.{Tag}
@@ -17,7 +18,7 @@ tags_text (tag ∷ tags) = join_with_byte 44 (map tag_text (tag ∷ tags))
 abbrev pub AreTagsInRange : List Tag → Type 0
 AreTagsInRange tags = All IsTagInRange tags
 
--- the text of tags in the order and the spellings in which they stand there
+-- the text of tags in their order and spellings
 abbrev pub spelt_tags_text : List SpeltTag → List ℕ
 spelt_tags_text [] = codes "-"
 spelt_tags_text (tag ∷ tags) = join_with_byte 44 (map spelt_text (tag ∷ tags))
@@ -26,17 +27,17 @@ spelt_tags_text (tag ∷ tags) = join_with_byte 44 (map spelt_text (tag ∷ tags
 abbrev pub AreSpeltInRange : List SpeltTag → Type 0
 AreSpeltInRange tags = All IsSpeltInRange tags
 
--- which tags they are
+-- the tags, without their spelling
 abbrev pub tags_spelt : List SpeltTag → List Tag
 tags_spelt = map (λ s. s.tag)
 
--- the set that adding the tags of the text, one after the other, gives
+-- the set that results from adding the tags of the text one after the other
 abbrev pub IsSetOfText : List ℕ → List Tag → Type 0
 IsSetOfText text set =
     (tags : List SpeltTag) × IsTextOf AreSpeltInRange spelt_tags_text text tags
     × (set ≡ set_of (tags_spelt tags))
 
--- a text that is none of the grammar is refused at its longest prefix; memory is refused only for one that is
+-- a text outside the grammar fails at its longest prefix; only a text of the grammar can fail for memory
 abbrev pub IsSetRefusal : List ℕ → SetError → Type 0
 IsSetRefusal text (BadTag bad) = IsLongestPrefix AreSpeltInRange spelt_tags_text text bad.at
     × (IsText AreSpeltInRange spelt_tags_text text → ⊥)

@@ -1,5 +1,5 @@
--- The text of a tag: `t`, the table's number, `:`, and then `?`, or `id=` or `grp=` and a number. Or the table's
--- number, `/`, and then `?`, or `id/` or `grp/` and a number, which is read and never written.
+-- The text of a tag: `t`, the table's number, `:`, and then `?`, or `id=` or `grp=` and a number. Or the
+-- table's number, `/`, and then `?`, or `id/` or `grp/` and a number, which is read and never written.
 use Rattle.std.specs.Prelude.{ℕ, ◌≤◌, ⊤, List, [], ◌++◌, codes}
 use Rattle.std.specs.Fmt.{decimal}
 use Rattle.txc_tags.specs.declared.tag.Rows.{Rows}
@@ -11,12 +11,12 @@ use Rattle.txc_tags.specs.declared.text.tag.Spelling.TheVariants.{Usual, Slashed
 use Rattle.txc_tags.specs.declared.text.number.TheConstants.{LAST_NUMBER}
 use Rattle.txc_tags.specs.TextGrammar.{IsTextOf}
 
--- what stands before the table's number
+-- the text before the table's number
 abbrev pub opening : Spelling → List ℕ
 opening Usual = codes "t"
 opening Slashed = []
 
--- what stands after it: for every row
+-- the text after it: for every row
 abbrev pub all_word : Spelling → List ℕ
 all_word Usual = codes ":?"
 all_word Slashed = codes "/?"
@@ -41,7 +41,7 @@ rows_text spelling (Group group) = group_word spelling ++ decimal group
 abbrev pub spelled : Spelling → Tag → List ℕ
 spelled spelling tag = opening spelling ++ (decimal tag.table ++ rows_text spelling tag.rows)
 
--- a tag as it stands in a text
+-- a tag with its spelling in a text
 pub record SpeltTag : Type 0 where
   pub spelling : Spelling
   pub tag : Tag

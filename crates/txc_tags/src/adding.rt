@@ -9,7 +9,8 @@ use std::alloc::AllocError;
 /// The most tags of one table in a set.
 pub const MAX_TAGS: usize = 16;
 
-/// Adds the tag to the tags of a set.
+/// Adds the tag to the tags of a set. Fails, and changes nothing, if there is no memory for it; it needs none
+/// if the list does not grow or has room for one more.
 pub fn add_tag(tags: &mut Vec<Tag>, tag: Tag) -> Result<(), AllocError>
     requires { IsCanonical tags.old.items }
     ensures after { OnOk result (tags.new.items ≡ with_tag tag tags.old.items) }
@@ -34,14 +35,14 @@ fn has(tags: &[Tag], tag: &Tag) -> bool
     tags.iter().any(|t| tag == t)
 }
 
-/// Whether the tag or the wildcard of its table is there.
+/// Returns `true` if the tags have this tag or the wildcard of its table.
 pub fn covers_tag(tags: &[Tag], tag: &Tag) -> bool
     ensures { result ≡ covers tags.now tag.now }
 {
     has(tags, tag) || has(tags, &Tag::wildcard(tag.table))
 }
 
-/// Whether each of the other tags, or the wildcard of its table, is there.
+/// Returns `true` if the tags have each of the other tags or the wildcard of its table.
 pub fn covers_all(tags: &[Tag], others: &[Tag]) -> bool
     ensures { result ≡ list_all (covers tags.now) others.now }
 {
@@ -54,14 +55,14 @@ fn count_of(tags: &[Tag], table: Table) -> usize
     tags.iter().filter(|t| t.table == table).count()
 }
 
-/// Whether adding the tag leaves its table's wildcard.
+/// Returns `true` if adding the tag leaves its table's wildcard only.
 fn becomes_wildcard(tags: &[Tag], tag: &Tag) -> bool
     ensures { result ≡ is_wildcard tag.now || is_full tag.now.table tags.now }
 {
     tag.is_wildcard() || count_of(tags, tag.table) >= MAX_TAGS
 }
 
-/// How many of the tags stand before this one.
+/// Returns the number of tags that come before this one.
 fn place_of(tags: &[Tag], tag: &Tag) -> usize
     ensures value { result ≡ count_by (λ x. tag_before x tag.now) tags.now }
     ensures bound { result ≤ length tags.now }
@@ -69,7 +70,7 @@ fn place_of(tags: &[Tag], tag: &Tag) -> usize
     tags.iter().filter(|t| *t < tag).count()
 }
 
-/// Puts the tag, which is not there, at its place.
+/// Inserts the tag, which is not in the list, at its place.
 fn put_tag(tags: &mut Vec<Tag>, tag: Tag) -> Result<(), AllocError>
     requires canonical { IsCanonical tags.old.items }
     requires absent { has_tag tags.old.items tag ≡ false }
@@ -84,7 +85,7 @@ fn put_tag(tags: &mut Vec<Tag>, tag: Tag) -> Result<(), AllocError>
     Ok(())
 }
 
-/// Takes the tags of the table out.
+/// Removes the tags of the table.
 fn take_out(tags: &mut Vec<Tag>, table: Table)
     ensures others { tags.new.items ≡ filter (λ x. not (x.table == table)) tags.old.items }
     ensures bound { vec_len tags.new ≤ vec_len tags.old }
@@ -93,7 +94,7 @@ fn take_out(tags: &mut Vec<Tag>, table: Table)
     tags.retain(|t| t.table != table);
 }
 
-/// Makes room for the table's wildcard in the place of its tags.
+/// Makes room for the table's wildcard instead of its tags.
 fn make_room(tags: &mut Vec<Tag>, table: Table) -> Result<(), AllocError>
     ensures same { tags.new.items ≡ tags.old.items }
     ensures after { OnOk result
@@ -108,7 +109,7 @@ fn make_room(tags: &mut Vec<Tag>, table: Table) -> Result<(), AllocError>
     tags.reserve(1)
 }
 
-/// Puts the wildcard in the place of its table's tags.
+/// Replaces the tags of the table by its wildcard.
 fn put_wildcard(tags: &mut Vec<Tag>, table: Table) -> Result<(), AllocError>
     requires canonical { IsCanonical tags.old.items }
     ensures after { OnOk result (tags.new.items ≡ wildcarded table tags.old.items) }
@@ -129,7 +130,7 @@ fn put_wildcard(tags: &mut Vec<Tag>, table: Table) -> Result<(), AllocError>
     Ok(())
 }
 
-/// Adds the tags one after the other, where there is room for them.
+/// Adds the tags one after the other. The list has room for all of them.
 pub fn add_all(tags: &mut Vec<Tag>, more: &[Tag])
     requires canonical { IsCanonical tags.old.items }
     requires room { vec_len tags.old + length more.now ≤ vec_capacity tags.old }

@@ -7,11 +7,12 @@ use crate::tag::Tag;
 use std::alloc::{AllocError, Global};
 use std::marker::Model;
 
-/// The tags that a result depends on, or that an event changed: of each table at most sixteen, or its
-/// wildcard alone.
+/// The tags that a result depends on, or that an event changed: at most sixteen of each table, or its wildcard
+/// only.
 ///
-/// A contract sees the list of its tags by table, in a table the wildcard alone, or the ids by number and
-/// then the groups by number. So sets of the same tags are equal, in whatever order the tags came.
+/// A contract sees the list of the tags in order: by table; in a table the wildcard only, or the ids by number
+/// and then the groups by number. So sets of the same tags are equal, whatever the order in which the tags were
+/// added.
 #[derive(Debug, Drop)]
 pub struct TagSet {
     tags: Vec<Tag>,
@@ -30,7 +31,7 @@ impl Model for TagSet {
 }
 
 impl TagSet {
-    /// The empty set. It takes no memory.
+    /// Makes the empty set. Does not allocate.
     pub fn new(alloc: Global) -> TagSet
         ensures { result ≡ [] }
     {
@@ -39,7 +40,7 @@ impl TagSet {
         }
     }
 
-    /// The tags in their order.
+    /// Returns the tags in their order.
     pub fn tags(&self) -> &[Tag]
         ensures answer { result.now ≡ self.now }
         ensures canonical { IsCanonical self.now }
@@ -47,29 +48,29 @@ impl TagSet {
         &self.tags
     }
 
-    /// Whether it holds no tag.
+    /// Returns `true` if it has no tag.
     pub fn is_empty(&self) -> bool
         ensures { result ≡ (length self.now == 0) }
     {
         self.tags.is_empty()
     }
 
-    /// Whether it holds the tag or the wildcard of the tag's table.
+    /// Returns `true` if it has the tag or the wildcard of the tag's table.
     pub fn covers(&self, tag: Tag) -> bool
         ensures { result ≡ covers self.now tag }
     {
         covers_tag(&self.tags, &tag)
     }
 
-    /// Whether a tag of one matches a tag of the other. It takes no memory.
+    /// Returns `true` if a tag of one set matches a tag of the other. Does not allocate.
     pub fn matches(&self, other: &TagSet) -> bool
         ensures { result ≡ sets_match self.now other.now }
     {
         slices_match(&self.tags, &other.tags)
     }
 
-    /// Adds a tag. A tag that is covered changes nothing; a wildcard, and a seventeenth tag of a table,
-    /// takes the place of the table's tags. It takes memory only where the set grows.
+    /// Adds a tag. A covered tag changes nothing; a wildcard, and a seventeenth tag of a table, replaces the
+    /// table's tags. Fails, and changes nothing, if memory for a growing set cannot be allocated.
     pub fn add(&mut self, tag: Tag) -> Result<(), AllocError>
         ensures after { OnOk result (self.new ≡ with_tag tag self.old) }
         ensures unchanged { OnErr result (self.new ≡ self.old) }
@@ -78,8 +79,8 @@ impl TagSet {
         add_tag(&mut self.tags, tag)
     }
 
-    /// Adds the other set's tags one after the other. It is refused only where memory was, and takes none
-    /// where each of them is covered.
+    /// Adds the other set's tags one after the other. Fails, and changes nothing, only if memory cannot be
+    /// allocated; it allocates none if each of them is covered.
     pub fn join(&mut self, other: &TagSet) -> Result<(), AllocError>
         ensures after { OnOk result (self.new ≡ with_tags other.now self.old) }
         ensures unchanged { OnErr result (self.new ≡ self.old) }
@@ -93,7 +94,7 @@ impl TagSet {
         Ok(())
     }
 
-    /// An equal set. It is refused only where memory was.
+    /// Returns an equal set. Fails only if memory cannot be allocated.
     pub fn copy(&self, alloc: Global) -> Result<TagSet, AllocError>
         ensures { IfOk result (λ set. set ≡ self.now) }
     {
@@ -102,7 +103,7 @@ impl TagSet {
     }
 }
 
-/// Whether a tag of one matches a tag of the other, found in one pass over both.
+/// Returns `true` if a tag of one list matches a tag of the other, in one pass over both.
 fn slices_match(a: &[Tag], b: &[Tag]) -> bool
     requires first { is_in_order a.now ≡ true }
     requires second { is_in_order b.now ≡ true }

@@ -6,7 +6,7 @@ use std::marker::Model;
 /// The greatest number of a table.
 pub const LAST_TABLE: u8 = 15;
 
-/// One of the tables, 0 to [`LAST_TABLE`]; a contract sees the number.
+/// Number of a table, 0 to [`LAST_TABLE`]; a contract sees the number.
 #[derive(Clone, Copy, Debug, PartialEq, Eq, PartialOrd, Ord, Hash)]
 pub struct Table {
     number: u8,
@@ -26,7 +26,7 @@ impl Model for Table {
 }
 
 impl Table {
-    /// The table of that number; None if there is no such table.
+    /// Makes the table of that number. Returns `None` if the number is beyond [`LAST_TABLE`].
     pub fn new(number: u8) -> Option<Table>
         ensures only_if { IsSome result ↔ (number ≤ LAST_TABLE) }
         ensures answer { IfSome result (λ t. t ≡ number) }
@@ -38,7 +38,7 @@ impl Table {
         }
     }
 
-    /// Its number.
+    /// Returns its number.
     pub fn number(self) -> u8
         ensures answer { result ≡ self }
         ensures bound { self ≤ LAST_TABLE }
@@ -47,7 +47,7 @@ impl Table {
     }
 }
 
-/// Rows of a table, in the order in which a set holds them.
+/// Rows of a table, in the order in which a set has them.
 #[derive(Clone, Copy, Debug, PartialEq, Eq, PartialOrd, Ord, Hash)]
 pub enum Rows {
     /// Every row: `?`.
@@ -59,7 +59,7 @@ pub enum Rows {
 }
 
 impl Rows {
-    /// Whether they are every row.
+    /// Returns `true` if they are every row.
     fn are_all(&self) -> bool
         ensures { result ≡ are_all self.now }
     {
@@ -78,17 +78,17 @@ impl Rows {
 
 /// Rows of a table that a result depends on, or that an event changed.
 ///
-/// Tags stand in a set by table, and in a table the wildcard, the ids and the groups, each by number.
+/// Tags are ordered by table, and in a table the wildcard, the ids and the groups, each by number.
 #[derive(Clone, Copy, Debug, PartialEq, Eq, PartialOrd, Ord, Hash)]
 pub struct Tag {
     /// The table.
     pub table: Table,
-    /// Which of its rows.
+    /// The rows of the table.
     pub rows: Rows,
 }
 
 impl Tag {
-    /// The wildcard, every row of the table: `t1:?`.
+    /// Makes the wildcard, every row of the table: `t1:?`.
     pub fn wildcard(table: Table) -> Tag
         ensures { result ≡ wildcard table }
     {
@@ -98,7 +98,7 @@ impl Tag {
         }
     }
 
-    /// The row with that id: `t1:id=7`.
+    /// Makes the tag of the row with that id: `t1:id=7`.
     pub fn id(table: Table, id: u32) -> Tag
         ensures { result ≡ id_tag table id }
     {
@@ -108,7 +108,7 @@ impl Tag {
         }
     }
 
-    /// The rows of that group: `t1:grp=2`.
+    /// Makes the tag of the rows of that group: `t1:grp=2`.
     pub fn group(table: Table, group: u32) -> Tag
         ensures { result ≡ group_tag table group }
     {
@@ -118,21 +118,22 @@ impl Tag {
         }
     }
 
-    /// Whether it names every row of its table.
+    /// Returns `true` if it covers every row of its table.
     pub fn is_wildcard(&self) -> bool
         ensures { result ≡ is_wildcard self.now }
     {
         self.rows.are_all()
     }
 
-    /// Whether they are of one table, and either is its wildcard or they are equal. It takes no memory.
+    /// Returns `true` if both are of one table, and one of them is its wildcard or they are equal. Does not
+    /// allocate.
     pub fn matches(&self, other: &Tag) -> bool
         ensures { result ≡ tags_match self.now other.now }
     {
         self.table == other.table && self.rows.matches(&other.rows)
     }
 
-    /// Whether it stands before the other in a set.
+    /// Returns `true` if it comes before the other in a set.
     pub(crate) fn comes_before(&self, other: &Tag) -> bool
         ensures { result ≡ tag_before self.now other.now }
     {

@@ -1,4 +1,4 @@
-//! Texts of numbers, tags, sets of tags and keys: what is read, and what is written.
+//! Reads and writes texts of numbers, tags, sets of tags and keys.
 //!
 //! | Text | Grammar |
 //! |---|---|
@@ -7,11 +7,10 @@
 //! | set of tags | `-` for the empty set, or tags joined by `,`, in any order and with repeats |
 //! | key | `f` F `(` ARGS `)`; F is 0 to 63; ARGS is nothing, or 1 to 4 numbers joined by `,` |
 //!
-//! Ids, groups and arguments are numbers up to 4294967295. No blanks stand anywhere. What `write` writes is
-//! one spelling: a set's tags by table, in a table the wildcard alone, or ids by number and then groups by
-//! number.
+//! Ids, groups and arguments are numbers up to 4294967295. No text has blanks. `write` has one spelling: a
+//! set's tags by table, in a table the wildcard only, or ids by number and then groups by number.
 //!
-//! Texts are read from bytes, since a script's line may be no UTF-8.
+//! Texts are read from bytes, since a script's line may not be UTF-8.
 
 pub mod key;
 pub mod number;

@@ -27,7 +27,7 @@ pub const BOUNDS: Bounds = Bounds {
     at_least: Stamp::ZERO,
 };
 
-/// The program's functions.
+/// Returns the program's functions.
 fn functions(alloc: Global) -> Result<Registry<Program, Object>>
     ensures idle { IfOk result AllIdle }
     ensures numbers { IfOk result (λ registry. numbers_of registry ≡ ALL_NUMBERS) }
@@ -36,7 +36,7 @@ fn functions(alloc: Global) -> Result<Registry<Program, Object>>
     Ok(registry(alloc, &mut pool)?)
 }
 
-/// A client with the program's functions.
+/// Makes a client with the program's functions.
 pub fn client<'a, J: Naming>(
     rt: &impl Wait,
     alloc: Global,
@@ -52,7 +52,7 @@ pub fn client<'a, J: Naming>(
     Ok(client)
 }
 
-/// A transaction of a client in a session.
+/// Runs a transaction of a client in a session.
 fn page<'a, J: Naming>(
     rt: &impl Wait,
     alloc: Global,
@@ -73,7 +73,7 @@ fn page<'a, J: Naming>(
     Ok(client)
 }
 
-/// A transaction with pins that are kept, and given back then.
+/// Runs a transaction with kept pins, and returns these.
 fn page_keeping<'a, J: Naming>(
     rt: &impl Wait,
     alloc: Global,
@@ -89,7 +89,7 @@ fn page_keeping<'a, J: Naming>(
     client
 }
 
-/// A transaction of a client in a session, one with pins that are kept, and one that is given up.
+/// Runs a transaction of a client in a session, one with kept pins, and one that is aborted.
 pub fn pages<J: Naming>(
     rt: &impl Wait,
     alloc: Global,
@@ -104,7 +104,7 @@ pub fn pages<J: Naming>(
     Ok(client.node_count().max(usize::from(is_counted)))
 }
 
-/// A read-write transaction.
+/// Runs a read-write transaction.
 pub fn update<J: Naming>(rt: &impl Wait, alloc: Global, database: &Database<J>) -> Result<usize> {
     let functions = functions(alloc)?;
     let key = Key::read(b"f0(7)")?;

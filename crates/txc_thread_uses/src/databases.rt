@@ -9,7 +9,7 @@ use txc_site::events_left;
 use txc_stamp::Stamp;
 use txc_tags::{Table, TagSet};
 
-/// An event that is taken.
+/// Takes an event.
 pub fn feed<J: Naming>(rt: &impl Wait, database: &Database<J>) -> Result<usize> {
     let mut feed = database.feed(rt)?;
     let front = database.reader()?;
@@ -28,7 +28,7 @@ pub fn feed<J: Naming>(rt: &impl Wait, database: &Database<J>) -> Result<usize> 
     Ok(net.max(usize::from(is_tagged)))
 }
 
-/// A query at a stamp that is held.
+/// Makes a query at a stamp that is held.
 pub fn ask<J: Naming>(rt: &impl Wait, alloc: Global, database: &Database<J>) -> Result<usize> {
     let held = database.hold(rt, alloc)?;
     let shown = held.front().len();
@@ -38,7 +38,7 @@ pub fn ask<J: Naming>(rt: &impl Wait, alloc: Global, database: &Database<J>) -> 
     Ok(shown.max(found?.answer.rows.len()))
 }
 
-/// A commit, a pin and a vacuum.
+/// Makes a commit, a pin and a vacuum.
 pub fn commit<J: Naming>(rt: &impl Wait, alloc: Global, database: &Database<J>) -> Result<usize> {
     let tags = TagSet::new(alloc);
     let committed = database.commit(rt, alloc, Stamp::ZERO, &tags, &[])?;
@@ -52,7 +52,7 @@ pub fn commit<J: Naming>(rt: &impl Wait, alloc: Global, database: &Database<J>) 
     Ok(kept.max(room))
 }
 
-/// A pin that is added to a pincushion, handed out, and given back.
+/// Adds a pin to a pincushion, gets it issued, and returns it.
 pub fn stick<J: Naming>(
     rt: &impl Wait,
     alloc: Global,
@@ -66,7 +66,7 @@ pub fn stick<J: Naming>(
     Ok(pins.pins.len())
 }
 
-/// How many pins a new pincushion retires.
+/// Returns how many pins a new pincushion retires.
 pub fn retire<J: Naming>(rt: &impl Wait, alloc: Global, database: &Database<J>) -> Result<usize> {
     let core = CushionCore::new(alloc, database.reader()?);
     let cushion = Pincushion::<J>::of_core(core);

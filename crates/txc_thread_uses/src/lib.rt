@@ -1,5 +1,5 @@
-//! Calls of the libraries at the types of a program, of what threads share: what stands under locks, and what is built
-//! on that. `txc_uses` calls the others, and says what for.
+//! Calls of the libraries that threads share, at the types of a program: those with locks, and those built on
+//! them. `txc_uses` calls the others, and has the reason for both.
 #![tactic(auto)]
 
 pub mod clients;

@@ -1,4 +1,4 @@
-//! A node that threads share, and passes through it.
+//! A node that threads share, and passes at it.
 use anyhow::Result;
 use std::alloc::Global;
 use std::sync::Wait;
@@ -10,7 +10,7 @@ use txc_site::records_left;
 use txc_stamp::Stamp;
 use txc_tags::Key;
 
-/// Events that a node takes, and what it drops.
+/// Lets a node take events, and drop entries.
 fn take<J: Naming>(
     rt: &impl Wait,
     alloc: Global,
@@ -22,7 +22,7 @@ fn take<J: Naming>(
     Ok(pass.sweep(rt, alloc, node, Stamp::ZERO)?.max(taken))
 }
 
-/// What one pass finds, and the other inserts.
+/// Makes a lookup by one pass, and an insertion by the other.
 fn find<J: Naming>(
     rt: &impl Wait,
     alloc: Global,
@@ -45,7 +45,7 @@ fn find<J: Naming>(
     Ok(())
 }
 
-/// How many records two passes show, once they have met.
+/// Returns how many records two passes show, after each has seen the other's.
 fn records<J: Naming>(one: &mut NodePass<J>, other: &mut NodePass<J>) -> usize {
     one.is_legal();
     if one.settings() != other.settings() {
@@ -59,7 +59,7 @@ fn records<J: Naming>(one: &mut NodePass<J>, other: &mut NodePass<J>) -> usize {
     one.records().len().max(events)
 }
 
-/// The steps of two passes.
+/// Makes the steps of two passes.
 pub fn step<J: Naming>(
     rt: &impl Wait,
     alloc: Global,

@@ -1,4 +1,5 @@
-//! All of it over histories that were just made: the database's, that of a node, and that of a node which stores none.
+//! Calls of all these libraries over new histories: the database's, that of a node, and that of a node which
+//! stores none.
 ghost use Rattle.std.specs.Prelude.{◌≡◌, [], length, vec_len, IfOk};
 ghost use Rattle.txc_stream.specs.Names.{stored, unstored};
 
@@ -23,19 +24,19 @@ const SETTINGS: NodeSettings = NodeSettings {
     recent: 16,
 };
 
-/// Those of the node whose history is not stored.
+/// The settings of the node whose history is not stored.
 const OTHERS: NodeSettings = NodeSettings {
     number: 1,
     capacity: 64,
     recent: 16,
 };
 
-/// Whether a site may be made as it is where nothing is said of it.
+/// Returns `true` if a site may be made by the default plan.
 pub fn plan() -> bool {
     Plan::DEFAULT.is_sound()
 }
 
-/// What is done with the database and its pincushion alone.
+/// Makes the calls that need only the database and its pincushion.
 fn by_calls<J: Naming>(
     rt: &impl Wait,
     alloc: Global,
@@ -48,7 +49,7 @@ fn by_calls<J: Naming>(
     Ok(asked.max(stuck).max(fed))
 }
 
-/// A node of the row, and one of the pen.
+/// Makes a node of the log, and one of the pen.
 fn nodes<J: Naming>(
     rt: &impl Wait,
     alloc: Global,
@@ -67,7 +68,7 @@ fn nodes<J: Naming>(
     Ok(nodes)
 }
 
-/// What is done with the database, and with a pincushion and nodes of it.
+/// Makes the calls of the database, and of a pincushion and nodes of it.
 fn over_database<J: Naming, R: Wait>(
     rt: &R,
     alloc: Global,
@@ -87,7 +88,7 @@ fn over_database<J: Naming, R: Wait>(
     Ok(called.max(stepped).max(shown))
 }
 
-/// All of it over these histories.
+/// Makes all calls over these histories.
 fn over_histories<J: Naming, R: Wait>(
     rt: &R,
     alloc: Global,
@@ -105,7 +106,7 @@ fn over_histories<J: Naming, R: Wait>(
     Ok((database.into_core(), done))
 }
 
-/// The same over a new database.
+/// Makes all calls over new histories.
 pub fn over_new_histories<R: Wait>(rt: &R, alloc: Global) -> Result<(DbCore, usize)> {
     let core = DbCore::new(alloc, 16)?;
     let row = EventRow::new(alloc, 64)?;

@@ -1,11 +1,9 @@
-//! The objects that a registry would have, in the proofs only: for a caller that runs the functions of its calls itself.
+//! Ghost objects of functions, for a caller that runs the functions of its calls itself.
 //!
-//! A function that its caller runs has no object in a registry. The contracts of calls speak of objects all the
-//! same, since they say which answers each open function was given. A [`Told`] is those objects. It has no bytes.
+//! A function that its caller runs has no object in a registry. The contracts of calls state the answers that
+//! each open function got as the state of such objects. A [`Told`] is these objects. It is zero-sized.
 #![tactic(auto)]
 
-mod steps;
 mod told;
 
-pub use steps::{AsIdle, AsNew, AsRan, Ran};
-pub use told::{Reads, Told};
+pub use told::{AsIdle, AsNew, AsRan, Ran, Reads, Told};

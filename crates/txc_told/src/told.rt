@@ -2,15 +2,18 @@ ghost use Rattle.std.specs.Prelude.{◌≡◌};
 ghost use Rattle.txc_registry.specs.Objects.{Objects};
 ghost use base.Fml.{ftrue};
 
-use std::marker::{Model, PhantomData};
+mod steps;
 
-/// How objects are read off a value.
+use std::marker::{Model, PhantomData};
+pub use steps::{AsIdle, AsNew, AsRan, Ran};
+
+/// The function that reads objects off a value.
 pub trait Reads<X> {
     ghost objects: { X → Objects };
 }
 
-/// The objects of functions that their caller runs. It has no bytes and owns nothing: a contract alone says which
-/// objects they are.
+/// The objects of functions that their caller runs. It is zero-sized and owns nothing: only contracts state
+/// which objects it is.
 pub struct Told {
     marker: PhantomData<()>,
     pub ghost objects: { Objects },
@@ -21,7 +24,7 @@ impl Model for Told {
 }
 
 impl Told {
-    /// Returns the objects that are read off the value.
+    /// Returns the objects that `M` reads off the value.
     pub fn of<X, M: Reads<X>>(x: &X) -> Told
         ensures { result.objects ≡ M.objects x.now }
     {

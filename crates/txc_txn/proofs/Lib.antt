@@ -2,7 +2,6 @@ mod Cited
 pub mod Longer
 pub mod Meanings
 pub mod Cores
-pub mod Worked
 pub mod Offered
 pub mod Sessions
 pub mod Held

@@ -1,5 +1,5 @@
--- A read-only transaction whose caller runs the functions of its calls, so that no registry has objects for them. Each
--- definition is said of any objects: those that a registry would have.
+-- A read-only transaction whose caller runs the functions of its calls, so that no registry has objects for
+-- them. Each definition is about any objects: those that a registry would have.
 use Rattle.std.specs.Prelude.{◌≡◌, ◌≢◌, ℕ, List, [], Option, Some, None, IfSome, Ok, Err}
 use Rattle.std.specs.Option.{ForSome}
 use mathlib.Core.List.{IsPrefix}
@@ -35,7 +35,7 @@ use Rattle.txc_txn.specs.Core.{CoreValue, CoreHolds, IsCore, IsPinningAt, IsRigh
 use Rattle.txc_txn.specs.Core.{first_call, left_after, left_pin, open_call, recorded_after, taken_after, AddsOnly, IsNoAdding, IsOneOf}
 use Rattle.txc_txn.specs.Transitions.{PresentPinTransition, StandingTransition}
 
--- what a step by hand gives: a turn, or none if a function is to begin or to continue first
+-- the result of a step by hand: a turn, or none if a function must begin or continue first
 abbrev pub HandTurn : Type 0
 HandTurn = Option PortTurn
 
@@ -44,7 +44,7 @@ abbrev pub IsHandTurn : CoreValue → HandTurn → Type 0
 IsHandTurn c None = (c.pinning ≡ None) × NeedsFunction c.call.need
 IsHandTurn c (Some turn) = IsTurn c turn
 
--- the call goes on
+-- the call continues
 abbrev pub IsUnended : HandTurn → Type 0
 IsUnended None = Unit {0}
 IsUnended (Some turn) = IsAsk turn
@@ -61,7 +61,7 @@ abbrev pub recorded_by_hand : List Recorded → HandTurn → Option Call → Lis
 recorded_by_hand recorded None k = recorded
 recorded_by_hand recorded (Some turn) k = recorded_after recorded turn k
 
--- there is an object for the function of the call that is to begin after the pin, if one is
+-- there is an object for the function of the call that begins after the pin, if one does
 abbrev pub FirstExists : Objects → Option Call → Type 0
 FirstExists objects first = ForSome first (λ k. FunctionExists objects (asks.Call k))
 
@@ -76,13 +76,13 @@ RestsAfter (ports.Insert kept) turn = IfSome turn (λ t. ¬ (IsAsk t))
 
 -- ---- the effect of a step
 
--- how a call stands, beside what the objects do
+-- the call's state, with the state of the objects
 abbrev pub standing_of : Calling → Objects → CallTurn
 standing_of call objects =
     Ok (record { frames = call.frames; asked = call.asked; need = call.need; objects = objects })
 
--- What the core does once its call stands so after a step of the machine, or has failed. If the call needs a
--- function, there is no turn, and the call stands so; else the turn is one as over a registry.
+-- The core's step after its call got into this state, or failed. If the call needs a function, there is no
+-- turn, and the call stays in this state; otherwise the turn is one as over a registry.
 abbrev pub HandTransition : CallTurn → CoreValue → HandTurn → Type 0
 HandTransition (Ok standing) new None =
     (new.call.frames ≡ standing.frames) × (new.call.asked ≡ standing.asked) × (new.call.need ≡ standing.need)
@@ -101,7 +101,7 @@ HandAskTransition limits old need ask new turn = (objects : Objects)
     → (stands : CallTurn) × AfterRan limits old.call.frames old.call.asked objects need ask stands
     × HandTransition stands new turn
 
--- a node's result counts if a member lies in its reach; anything else is a miss
+-- a hit counts if a member is in its reach; anything else is a miss
 pub record HitByHand (old : CoreValue) (k : Call) (hit : Shown) (new : CoreValue) (turn : HandTurn) : Type 0 where
   pub held : kept hit.reach old.pins.members ≢ []
       → TakeTransition old (needs.Lookup k) (replies.Hit hit) new turn
@@ -112,13 +112,13 @@ abbrev pub PresentByHand : CoreValue → CoreValue → HandTurn → Type 0
 PresentByHand old new turn = (objects : Objects) → FirstExists objects (first_call old.pinning)
     → (t : PortTurn) × (turn ≡ Some t) × PresentPinTransition (first_call old.pinning) old objects new objects t
 
--- the call is as it was, and so is the one that is to begin after the pin
+-- the call is as it was, and so is the one that begins after the pin
 pub record HasSameCall (old new : CoreValue) : Type 0 where
   pub call : new.call ≡ old.call
   pub first : first_call new.pinning ≡ first_call old.pinning
 
--- The effect of a reply. A pin is to be added; one that is not added loses its hold, and then the call fails for that
--- reason. The call takes a node's result, and what the database finds; it fails with the database's error.
+-- The effect of a reply. A pin must be added; one that is not added loses its hold, and then the call fails for
+-- that reason. The call takes a hit, and the database's answer; it fails with the database's error.
 abbrev pub HearTransition : CoreValue → PortReply → CoreValue → HandTurn → Type 0
 HearTransition old (ports.Pin (Ok pinned)) new turn =
     (turn ≡ Some (Ask (requests.AddPin pinned))) × HasSameCall old new
@@ -138,15 +138,15 @@ HearTransition old (ports.Query (Err error)) new turn = turn ≡ Some (Ended (Er
 HearTransition old (ports.Insert kept) new turn = (entry : Entry) → old.call.need ≡ Some (needs.Insert entry)
     → TakeTransition old (needs.Insert entry) replies.Inserted new turn
 
--- ---- what a step keeps, and gives
+-- ---- invariants of a step, and its results
 
--- The core fits any objects still that it fitted, as the step left them, if they have the function of a call that is to
--- begin.
+-- The core still fits any objects that it fitted, as the step left them, if they have the function of the call
+-- that begins after the pin.
 abbrev pub FitsByHand : CoreValue → CoreValue → HandTurn → Type 0
 FitsByHand old new turn = (next : Next) (objects after : Objects) → FirstExists objects (first_call old.pinning)
     → ObjectsLeft objects turn after → IsCore next objects old → IsCore next after new
 
--- What comes of a reply by hand, once what it shows was seen.
+-- The effect of a reply by hand, once its history was taken over.
 pub record HasHeard (old : CoreValue) (reply : PortReply) (new : CoreValue) (turn : HandTurn) : Type 0 where
   pub fits : FitsByHand old new turn
   pub holds : (next : Next) (objects after : Objects) (L : History) → ObjectsLeft objects turn after
@@ -169,8 +169,8 @@ pub record HasHeard (old : CoreValue) (reply : PortReply) (new : CoreValue) (tur
     pinning = new.pinning;
   }
 
--- What comes of a reply by hand: a turn or none, and what it leaves; more was seen of the history, and what the reply
--- shows of it too.
+-- The effect of a reply by hand: a turn or none, and the core after it; more of the history was seen, including
+-- what the reply shows of it.
 pub record HasGoneOnByHand (old : CoreValue) (reply : PortReply) (new : CoreValue) (turn : HandTurn) : Type 0 where
   pub turn_fits : IsHandTurn new turn
   pub leads : HearTransition old reply new turn
@@ -187,8 +187,9 @@ pub record HasGoneOnByHand (old : CoreValue) (reply : PortReply) (new : CoreValu
   pub shown : ForSome (front_of_reply reply) (λ front. IsPrefix front.history new.seen.history)
   pub one : IsOneOf old.seen (front_of_reply reply) new.seen
 
--- What comes of an ask of the function that the call needs, within these limits: a turn or none. No pin is to be added,
--- and none is left to be; all stays but the answers, the call, and its pin of the present.
+-- The effect of a step of the function that the call needs, within these limits: a turn or none. No pin is to
+-- be added, and none was left over; everything else stays except the results, the call, and its pin of the
+-- present.
 pub record HasAskedByHand (limits : Limits) (old : CoreValue) (ask : FunctionAsk) (new : CoreValue) (turn : HandTurn)
     : Type 0 where
   pub turn_fits : IsHandTurn new turn

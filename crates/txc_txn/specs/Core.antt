@@ -1,4 +1,4 @@
--- A read-only transaction: what it waits for, and what is true of it.
+-- A read-only transaction: its pending request, and its invariant.
 use Rattle.std.specs.Prelude.{◌≡◌, ◌≢◌, ◌⊎◌, ℕ, ◌+◌, ◌<◌, ◌≤◌, true, List, [], ◌∷◌, ◌++◌, All, Contains}
 use Rattle.std.specs.Prelude.{Option, Some, None, Ok, Err, map, max}
 use Rattle.txc_stamp.specs.Interval.{Interval, Holds}
@@ -37,9 +37,10 @@ use Rattle.txc_txn.specs.declared.pinning.PinStep.TheVariants.{Asked, Adding, Dr
 use Rattle.txc_txn.specs.declared.txn_core.TxnCore.{TxnCore}
 use Rattle.txc_txn.specs.Meaning.{IsMeant, LieWithin}
 
--- What callers see of a core: its bounds, after how long it renews its newest pin, and the number of nodes.
--- Then its pin set, and the stamps that it was handed or added; the answers that it recorded; its call; the pin
--- of the present that is under way, if one is; and what it has seen of the history.
+-- The value of a core in contracts: its bounds, the age beyond which it renews its newest pin, and the number
+-- of nodes. Then its pin set, the stamps that were issued to it or added by it, and the results that it
+-- recorded. Then its call, the pin of the present that is being made, if one is, and the history that it has
+-- seen.
 pub record CoreValue : Type 0 where
   pub bounds : Bounds
   pub renew_after : ℕ
@@ -64,7 +65,7 @@ value_of c = record {
   seen = c.seen;
 }
 
--- a core that was handed these pins, with its first call to come
+-- a core with these issued pins, before its first call
 abbrev pub begun_core : ℕ → ℕ → Bounds → Pins → Calling → CoreValue
 begun_core nodes renew_after bounds pins call = record {
   bounds = bounds;
@@ -89,24 +90,24 @@ abbrev pub least_present : Bounds → List Pin → ℕ
 least_present bounds [] = bounds.at_least
 least_present bounds (newest ∷ older) = max (newest.stamp + 1) bounds.at_least
 
--- a call that is yet to begin waits for the pin where there is no member; else the open call's query does
+-- a call that has not begun waits for the pin if there is no member; otherwise the open call's query does
 abbrev pub WaitsForPin : Option Call → Option Need → List Pin → Type 0
 WaitsForPin (Some k) need members = (need ≡ None) × (members ≡ [])
 WaitsForPin None need members = (query : Query) × (need ≡ Some (needs.Query query))
 
--- the pin that is to be added is newer than every member
+-- the pin to be added is newer than every member
 abbrev pub IsNewer : PinStep → List Pin → Type 0
 IsNewer Asked members = Unit {0}
 IsNewer (Adding pin) members = All (λ m. m.stamp < pin.stamp) members
 IsNewer (Dropping stamp error) members = Unit {0}
 
--- the present is pinned while it is there
+-- the present is pinned while the set has it
 abbrev pub PinningFits : Option Pinning → PinSetValue → Option Need → Type 0
 PinningFits None pins need = Unit {0}
 PinningFits (Some p) pins need = (pins.has_present ≡ true) × WaitsForPin p.first need pins.members
     × IsNewer p.step pins.members
 
--- the pin that is to be added is one that the bounds allow
+-- the pin to be added is one that the bounds allow
 abbrev pub IsFreshStep : History → Bounds → PinStep → Type 0
 IsFreshStep L bounds Asked = Unit {0}
 IsFreshStep L bounds (Adding pin) = IsFresh L bounds pin
@@ -116,11 +117,11 @@ abbrev pub IsFreshPinning : History → Bounds → Option Pinning → Type 0
 IsFreshPinning L bounds None = Unit {0}
 IsFreshPinning L bounds (Some p) = IsFreshStep L bounds p.step
 
--- ---- what is true of a core
+-- ---- the invariant of a core
 
--- In any history: its pin set is one, and its call waits for what it needs. All its members lie in each reach of
--- the call, which has none while the present is there, and were handed or added to it. It has a member while its
--- call goes on, and once a call was answered.
+-- In any history: its pin set is valid, and its call waits for its need. All its members are in each reach of
+-- the call, which has none while the set has the present, and were issued to it or added by it. It has a member
+-- while its call continues, and once a call was completed.
 pub record IsCore (next : Next) (objects : Objects) (c : CoreValue) : Type 0 where
   pub set : IsPinSet c.pins
   pub call : IsCalling next objects c.call
@@ -132,14 +133,14 @@ pub record IsCore (next : Next) (objects : Objects) (c : CoreValue) : Type 0 whe
   pub taken : All (λ m. Contains c.taken m.stamp) c.pins.members
   pub nodes : 1 ≤ c.nodes
 
--- in a history: its pin set means what it says, and so does the pin that is to join it
+-- in a history: its pin set is correct, and so is the pin to be added
 pub record CoreHolds (next : Next) (L : History) (objects : Objects) (c : CoreValue) : Type 0 where
   pub meant : IsMeant next L c.bounds c.pins c.recorded objects c.call
   pub coming : IsFreshPinning L c.bounds c.pinning
 
 -- ---- requests
 
--- the present is being pinned, and has come so far
+-- the present is being pinned, and this is the current step
 abbrev pub IsPinningAt : CoreValue → PinStep → Type 0
 IsPinningAt c step = (first : Option Call) × (c.pinning ≡ Some (record { step = step; first = first }))
 
@@ -147,9 +148,9 @@ IsPinningAt c step = (first : Option Call) × (c.pinning ≡ Some (record { step
 abbrev pub IsNeeding : CoreValue → Need → Type 0
 IsNeeding c need = (c.pinning ≡ None) × (c.call.need ≡ Some need)
 
--- The core asks this: a pin where it is due, and later than every member; or to add it, or to take its hold
--- away. Or it asks what the call's node has of it at the stamps from the least to the greatest member; a query at
--- the newest member; or to keep an entry at its call's node.
+-- The core makes this request: a pin if it is due, later than every member; or the addition of it, or the
+-- removal of its hold. Or it requests a lookup of the call at its node at the stamps from the least to the
+-- greatest member; a query at the newest member; or an insertion of an entry at its call's node.
 abbrev pub CoreAsks : CoreValue → PortRequest → Type 0
 CoreAsks c (requests.Pin now at_least) = IsPinningAt c Asked
     × (choice_of c.bounds.now c.renew_after c.pins ≡ Present)
@@ -198,30 +199,30 @@ IsRightPortReply next L need (ports.Query (Ok found)) = (n : Need) → need ≡ 
     → ReplyHolds next L n (replies.Found found.answer)
 IsRightPortReply next L need reply = Unit {0}
 
--- ---- what a reply leaves
+-- ---- the effect of a reply
 
--- what was seen is what had been seen, or what the reply shows
+-- the history seen is the old one, or that of the reply
 abbrev pub IsOneOf : FrontValue → Option FrontValue → FrontValue → Type 0
 IsOneOf old shown new = (new ≡ old) ⊎ (shown ≡ Some new)
 
--- narrowed by the reach where it holds a member; else as it was
+-- narrowed by the reach if that holds a member; otherwise as before
 pub record IsNarrowed (reach : Interval) (old new : PinSetValue) : Type 0 where
   pub held : kept reach old.members ≢ [] → new ≡ narrowed reach old
   pub none : kept reach old.members ≡ [] → new ≡ old
 
--- the pin set after a reply: narrowed by what was found, or with the pin of the present in its place
+-- the pin set after a reply: narrowed by the answer, or with the present replaced by its pin
 abbrev pub PinsAfter : CoreValue → PortReply → PinSetValue → Type 0
 PinsAfter c (ports.AddPin pinned (Ok added)) new = new ≡ with_present (pin_of pinned) c.pins
 PinsAfter c (ports.Lookup (Some hit)) new = IsNarrowed hit.answer.reach c.pins new
 PinsAfter c (ports.Query (Ok found)) new = new ≡ narrowed found.answer.reach c.pins
 PinsAfter c reply new = new ≡ c.pins
 
--- the stamps that were handed or added to the core: a pin that was added is one more
+-- the stamps that were issued to the core or added by it: an added pin is one more
 abbrev pub taken_after : List ℕ → PortReply → List ℕ
 taken_after taken (ports.AddPin pinned (Ok added)) = taken ++ pinned.stamp ∷ []
 taken_after taken reply = taken
 
--- the call that is to begin after the pin, if there is one
+-- the call that begins after the pin, if there is one
 abbrev pub first_call : Option Pinning → Option Call
 first_call None = None
 first_call (Some p) = p.first
@@ -248,7 +249,7 @@ recorded_after recorded turn k = recorded
 abbrev pub IsNoAdding : PortTurn → Type 0
 IsNoAdding turn = TurnAddsSuch (λ front. ⊥) turn
 
--- a pin is to be added only as soon as the database has given it
+-- a pin is added only right after the database has made it
 abbrev pub AddsOnly : PortReply → PortTurn → Type 0
 AddsOnly (ports.Pin (Ok pinned)) turn = Unit {0}
 AddsOnly reply turn = IsNoAdding turn
@@ -266,14 +267,14 @@ pub record KeepsSettings (old new : CoreValue) : Type 0 where
 
 -- ---- the end
 
--- the newest member, where a call was answered
+-- the newest member, if a call was completed
 abbrev pub receipt_pin : List Recorded → List Pin → Option Pin
 receipt_pin [] members = None
 receipt_pin (r ∷ rs) [] = None
 receipt_pin (r ∷ rs) (newest ∷ older) = Some newest
 
--- A receipt is explained. It has no pin and no answer; or its pin is one that the bounds allow, and there
--- each answer is what its call gives without a cache.
+-- A receipt is explained. It has no pin and no value; or its pin is one that the bounds allow, and there each
+-- value is the uncached one of its call.
 abbrev pub Explains : Next → History → Bounds → Option Pin → List Recorded → Type 0
 Explains next L bounds None answers = answers ≡ []
 Explains next L bounds (Some pin) answers = (answers ≢ []) × IsFresh L bounds pin
@@ -289,8 +290,8 @@ abbrev pub left_pin : Option Pinning → Option ℕ
 left_pin None = None
 left_pin (Some p) = left_stamp p.step
 
--- the pin that is left to be added or unpinned after a reply: the one that the database has just given, or the
--- pincushion has just refused
+-- the pin that must still be added or unpinned after a reply: the one that the database has just made, or that
+-- the pincushion has just not added
 abbrev pub left_after : PortReply → Option ℕ
 left_after (ports.Pin (Ok pinned)) = Some pinned.stamp
 left_after (ports.AddPin pinned (Err error)) = Some pinned.stamp

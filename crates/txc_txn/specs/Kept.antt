@@ -13,16 +13,16 @@ use Rattle.txc_ports.specs.Turns.{PortTurn, IsAsk}
 use Rattle.txc_txn.specs.Core.{left_after, left_pin, open_call, recorded_after, taken_after, AddsOnly, IsNoAdding, IsNoValue, IsOneOf}
 use Rattle.txc_txn.specs.Transitions.{ReplyTransition, StartTransition}
 
--- what callers see of it: its core, and what its objects do
+-- the value of it in contracts: its core, and the state of its objects
 pub record TxnValue : Type 0 where
   pub core : CoreValue
   pub objects : Objects
 
--- a core beside what its objects do
+-- a core with the state of its objects
 abbrev pub txn_value : CoreValue → Objects → TxnValue
 txn_value core objects = record { core = core; objects = objects }
 
--- it is what it is in any history, and its pin set means what it says in the history that it has seen
+-- it is valid in any history, and its pin set is correct in the history that it has seen
 pub record IsTxn (next : Next) (t : TxnValue) : Type 0 where
   pub fits : IsCore next t.objects t.core
   pub holds : CoreHolds next t.core.seen.history t.objects t.core
@@ -32,8 +32,8 @@ abbrev pub IsShownRight : Next → TxnValue → PortReply → Type 0
 IsShownRight next t reply =
     ForSome (front_of_reply reply) (λ front. IsRightPortReply next front.history t.core.call.need reply)
 
--- What comes of a call that begins: a turn that asks for it under its key, or refuses it. No pin is to be added, and none
--- is left to be; the functions stay, and so does all but the call and its pin of the present.
+-- The effect of beginning a call: a turn that makes a request for it, or an error. No pin must be added, and
+-- none was left over; the functions stay, and so does everything except the call and its pin of the present.
 pub record HasBegunCall (old : TxnValue) (key : Call) (new : TxnValue) (turn : PortTurn) : Type 0 where
   pub turn_fits : IsTurn new.core turn
   pub begins : IsAsk turn → open_call new.core ≡ Some key
@@ -44,8 +44,8 @@ pub record HasBegunCall (old : TxnValue) (key : Call) (new : TxnValue) (turn : P
   pub functions : numbers_of new.objects ≡ numbers_of old.objects
   pub same : new.core ≡ record old.core { call = new.core.call; pinning = new.core.pinning }
 
--- what comes of a reply: a turn, and what it leaves; the functions stay; more was seen of the history, and what
--- the reply shows of it too
+-- the effect of a reply: a turn, and the transaction after it; the functions stay; more of the history was
+-- seen, including what the reply shows of it
 pub record HasGoneOn (next : Next) (old : TxnValue) (reply : PortReply) (new : TxnValue)
     (turn : PortTurn) : Type 0 where
   pub turn_fits : IsTurn new.core turn
@@ -63,8 +63,8 @@ pub record HasGoneOn (next : Next) (old : TxnValue) (reply : PortReply) (new : T
   pub shown : ForSome (front_of_reply reply) (λ front. IsPrefix front.history new.core.seen.history)
   pub one : IsOneOf old.core.seen (front_of_reply reply) new.core.seen
 
--- What a step of a core between two requests gives: it fits its functions, which stay, and the turn is one of its.
--- No pin is to be added, and none is left to be.
+-- The result of a step of a core between two requests: it fits its functions, which stay, and the turn is one
+-- of its own. No pin must be added, and none was left over.
 pub record HasTurned (next : Next) (was : Objects) (new : CoreValue) (is : Objects) (turn : PortTurn) : Type 0 where
   pub fits : IsCore next is new
   pub turn_fits : IsTurn new turn
@@ -72,8 +72,8 @@ pub record HasTurned (next : Next) (was : Objects) (new : CoreValue) (is : Objec
   pub left : left_pin new.pinning ≡ None
   pub functions : numbers_of is ≡ numbers_of was
 
--- What comes of a reply, once what it shows was seen. The core fits its functions still, and means what it says in
--- each history in which the reply is right. And a turn comes of it, as after the whole reply.
+-- The effect of a reply, once its history was taken over. The core still fits its functions, and is correct in
+-- each history in which the reply is correct. The turn is as after the whole reply.
 pub record HasAnswered (next : Next) (old : CoreValue) (was : Objects) (reply : PortReply) (new : CoreValue)
     (is : Objects) (turn : PortTurn) : Type 0 where
   pub fits : IsCore next is new

@@ -1,4 +1,4 @@
--- What follows from the meaning of a pin set, step by step.
+-- Laws of the correctness of a pin set, step by step.
 use Rattle.std.specs.Prelude.{◌≡◌, ◌≢◌, ℕ, ◌<◌, ◌≤◌, true, List, [], ◌∷◌, ◌++◌, All, Option, Some, None}
 use Rattle.std.specs.List.{AllByRecursion}
 use mathlib.Core.List.{IsPrefix}
@@ -26,7 +26,7 @@ use Rattle.txc_ports.specs.declared.recorded.Recorded.{Recorded}
 use Rattle.txc_ports.specs.Answers.{IsFresh, AreConsistent}
 use Rattle.txc_txn.specs.Meaning.{IsMeant, HasOnlyLost}
 
--- what a pin set means in a history, it means in a longer one
+-- a pin set that is correct in a history is correct in each longer one
 abbrev pub MeaningStays : Type 0
 MeaningStays =
     (next : Next) (L M : History) (bounds : Bounds) (pins : PinSetValue) (recorded : List Recorded)
@@ -43,22 +43,22 @@ MeaningBegins =
     → Falls pins → All (IsFresh L bounds) pins → call.frames ≡ [] → call.need ≡ None
     → IsMeant next L bounds (begun_pin_set pins) [] objects call
 
--- ---- a call goes on
+-- ---- a call continues
 
 -- the pin set after what has this reach; without a reach it stays
 abbrev pub pins_over : Option Interval → PinSetValue → PinSetValue
 pins_over None pins = pins
 pins_over (Some reach) pins = narrowed reach pins
 
--- The call went on with what holds over a reach: what it was given is right, a stamp of the reach that lay in
--- each reach of the call lies in each still, and what had no reach gave none.
+-- The call continued with a result that holds over a reach: its answers are correct, a stamp of the reach that
+-- was in each reach of the call still is, and a result without a reach added none.
 pub record GoesOnOver (next : Next) (L : History) (reach : Option Interval) (before : Calling)
     (objects : Objects) (call : Calling) : Type 0 where
   pub right : CallHolds next L objects call
   pub within : (t : ℕ) → InReach t reach → InCall t before → InCall t call
   pub unreached : reach ≡ None → CallIsUnreached before → CallIsUnreached call
 
--- the pin set keeps its meaning where it is narrowed by that reach, and a member remains
+-- the pin set stays correct if it is narrowed by that reach, and a member remains
 abbrev pub FindingNarrows : Type 0
 FindingNarrows =
     (next : Next) (L : History) (bounds : Bounds) (pins : PinSetValue) (recorded : List Recorded)
@@ -89,7 +89,7 @@ PresentIsFresh = (L : History) (bounds : Bounds) (pin : Pin)
     → moment_at L pin.stamp ≡ Some pin.moment → pin.moment ≡ bounds.now → bounds.at_least ≤ pin.stamp
     → IsFresh L bounds pin
 
--- members may be taken away, and the present
+-- members may be removed, and the present
 abbrev pub FewerMembersMeanTheSame : Type 0
 FewerMembersMeanTheSame =
     (next : Next) (L : History) (bounds : Bounds) (old new : PinSetValue) (recorded : List Recorded)
@@ -107,7 +107,7 @@ CallBegins =
     → IsMeant next L bounds pins recorded objects call
     → IsMeant next L bounds pins recorded objects' (started k)
 
--- a call is given up: its frames are gone
+-- a call is cancelled: its frames are removed
 abbrev pub CallIsGivenUp : Type 0
 CallIsGivenUp =
     (next : Next) (L : History) (bounds : Bounds) (pins : PinSetValue) (recorded : List Recorded)
@@ -124,7 +124,7 @@ ValueIsRecorded =
     → IsMeant next L bounds pins (recorded ++ record { key = o.key; value = o.value } ∷ []) objects
     (record call { need = None })
 
--- ---- what it gives
+-- ---- its results
 
 -- the answers of each open frame are right in the state
 abbrev pub FramesAreRight : Next → Objects → State → List Frame → Type 0
@@ -145,7 +145,7 @@ abbrev pub IsValueAnswer : Answer → Type 0
 IsValueAnswer (answers.Value bytes) = Unit {0}
 IsValueAnswer (answers.Rows rows) = ⊥
 
--- what a frame without a reach was given are values of calls, and no rows
+-- the answers of a frame without a reach are values of calls, and no rows
 abbrev pub UnreachedAnswersAreValues : Type 0
 UnreachedAnswersAreValues = (next : Next) (L : History) (k : Call) (given : List Answer) (tags : List Tag)
     → AnswersHold next L k given None tags → AllByRecursion IsValueAnswer given

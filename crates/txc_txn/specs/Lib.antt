@@ -3,6 +3,5 @@ pub mod Laws
 pub mod Core
 pub mod Transitions
 pub mod Kept
-pub mod Worked
 pub mod Sessions
 pub mod ByHand

@@ -1,4 +1,4 @@
--- What the pin set of a read-only transaction means.
+-- Correctness of the pin set of a read-only transaction.
 use Rattle.std.specs.Prelude.{◌≡◌, true, List, All, Contains}
 use Rattle.txc_rows.specs.States.{State}
 use Rattle.txc_db.specs.History.{History, state_at}
@@ -10,18 +10,17 @@ use Rattle.txc_ports.specs.declared.bounds.Bounds.{Bounds}
 use Rattle.txc_ports.specs.declared.recorded.Recorded.{Recorded}
 use Rattle.txc_ports.specs.Answers.{IsFresh, AreConsistent}
 
--- every member lies in each reach of the call: of its open frames, and of a value that waits for its
--- insertion
+-- every member is in each reach of the call: of its open frames, and of a value that waits for its insertion
 abbrev pub LieWithin : PinSetValue → Calling → Type 0
 LieWithin pins call = All (λ p. InCall p.stamp call) pins.members
 
--- What a pin set means in a history, beside the bounds of its transaction, the answers that it recorded, and
--- its open call. It has a member or the present, and the bounds allow every member. At every member, the
--- recorded answers are what their calls give without a cache. The answers that each open frame was given
--- are right over the frame's reach, where its tags cover every query met for them, if it is still valid.
--- Without a reach they are right in every state, and rest on no query. So is a value that waits for its
--- insertion. Every member lies in all these reaches. While the present is there, there is no such reach, and
--- what was recorded is right in every state.
+-- Correctness of a pin set in a history, with the bounds of its transaction, its recorded results, and its open
+-- call. It has a member or the present, and the bounds allow every member. At every member, the recorded values
+-- are the uncached ones of their calls. The answers of each open frame are correct over the frame's reach, and
+-- if it is still valid, its tags cover every query met for them. Without a reach they are correct in every
+-- state, and depend on no query. So is a value that waits for its insertion. Every member is in all these
+-- reaches. While the set has the present, there is no such reach, and the recorded results are correct in every
+-- state.
 pub record IsMeant (next : Next) (L : History) (bounds : Bounds) (pins : PinSetValue)
     (recorded : List Recorded) (objects : Objects)
     (call : Calling) : Type 0 where

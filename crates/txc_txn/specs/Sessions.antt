@@ -1,4 +1,4 @@
--- What a caller has read and made, one thing after the other, and how far it has come by that.
+-- The reads and commits of a caller, in order, and its least stamp after them.
 use Rattle.std.specs.Prelude.{◌≡◌, ◌⊎◌, ℕ, ◌≤◌, max, List, [], ◌∷◌, Option, Some, None, option_map}
 use Rattle.txc_db.specs.Seen.{FrontValue}
 use Rattle.txc_cushion.specs.declared.pin.Pin.{Pin}
@@ -15,8 +15,8 @@ abbrev pub IsAtLeast : ℕ → Option Pin → Type 0
 IsAtLeast least None = Unit {0}
 IsAtLeast least (Some pin) = least ≤ pin.stamp
 
--- What a caller did: it noted the receipt of a read-only transaction; it noted the stamp of a commit of its own,
--- with what it saw of the history; or it began a read-only transaction with these bounds.
+-- An event of a caller: it noted the receipt of a read-only transaction; it noted the stamp of a commit of its
+-- own, with the history that it saw; or it began a read-only transaction with these bounds.
 pub data Deed : Type 0 where
   noted_receipt : Receipt → Deed
   noted_commit : ℕ → FrontValue → Deed
@@ -33,7 +33,8 @@ abbrev pub HasNoted : List Deed → ℕ → Type 0
 HasNoted [] stamp = ⊥
 HasNoted (deed ∷ deeds) stamp = (stamp_of deed ≡ Some stamp) ⊎ HasNoted deeds stamp
 
--- the floor of a session whose caller did these: the greatest stamp that it noted, or 0 where it noted none
+-- the floor of a session after these events of its caller: the greatest stamp that it noted, or 0 if it noted
+-- none
 pub record IsFloorOf (deeds : List Deed) (floor : ℕ) : Type 0 where
   pub greatest : (stamp : ℕ) → HasNoted deeds stamp → stamp ≤ floor
   pub noted : (floor ≡ 0) ⊎ HasNoted deeds floor

@@ -1,4 +1,4 @@
--- What comes of a call that begins, and of each reply.
+-- The effects of beginning a call, and of each reply.
 use Rattle.std.specs.Prelude.{◌≡◌, ◌≢◌, ◌⊎◌, ℕ, ◌<◌, [], Option, Some, None, IsNone, IsSome, Ok, Err}
 use Rattle.txc_stamp.specs.declared.stamp.TheConstants.{MOST_STAMP}
 use Rattle.txc_tags.specs.Keys.{Call}
@@ -29,27 +29,27 @@ use Rattle.txc_txn.specs.declared.pinning.PinStep.TheVariants.{Asked, Dropping}
 use Rattle.txc_txn.specs.Core.{CoreValue, IsPinningAt, first_call, least_present}
 use Rattle.txc_ports.specs.Turns.{PortTurn, IsAsk}
 
--- ---- the call goes on
+-- ---- the call continues
 
--- the present is to be pinned, but its pin would have to be beyond the last stamp
+-- the present must be pinned, but its pin would have to be beyond the last stamp
 pub record IsBeyond (c : CoreValue) : Type 0 where
   pub due : choice_of c.bounds.now c.renew_after c.pins ≡ Present
   pub beyond : MOST_STAMP < least_present c.bounds c.pins.members
 
--- out of memory, or no pin of the present can be had for a query
+-- no memory, or no pin of the present can be made for a query
 abbrev pub IsWanting : Option Need → CoreValue → TxnError → Type 0
 IsWanting need c error = (error ≡ errors.Memory)
     ⊎ ((query : Query) × (need ≡ Some (needs.Query query)) × IsBeyond c × (error ≡ errors.Database Full))
 
--- what the core does once its call stands so: it asks for what the call needs, and the call stands so still;
--- or the call's value is that of the turn
+-- the core's step once its call is in this state: it makes the request that the call needs, and the call stays
+-- in this state; or the call's value is that of the turn
 abbrev pub NeedTransition : CoreValue → Objects → CoreValue → Objects → PortTurn → Type 0
 NeedTransition old objects new objects' (Ask request) = (new.call ≡ old.call) × (objects' ≡ objects)
 NeedTransition old objects new objects' (Ended (Ok value)) = (o : Outcome) × (old.call.need ≡ Some (needs.Value o))
     × (value ≡ o.value)
 NeedTransition old objects new objects' (Ended (Err error)) = IsWanting old.call.need new error
 
--- what the core does once its call stands so after a step of the machine, or was refused
+-- the core's step once its call is in this state after a step of the machine, or has failed
 abbrev pub StandingTransition : CallTurn → CoreValue → Objects → PortTurn → Type 0
 StandingTransition (Ok standing) new objects (Ask request) =
     (new.call.frames ≡ standing.frames) × (new.call.asked ≡ standing.asked) × (new.call.need ≡ standing.need)
@@ -59,7 +59,7 @@ StandingTransition (Ok standing) new objects (Ended (Ok value)) = (o : Outcome) 
 StandingTransition (Ok standing) new objects (Ended (Err error)) = IsWanting standing.need new error
 StandingTransition (Err error) new objects turn = turn ≡ Ended (Err (refused_call error))
 
--- what comes of a reply to this need of the call
+-- the effect of a reply to this need of the call
 abbrev pub CallTransition : Next → CoreValue → Objects → Need → Reply → CoreValue → Objects → PortTurn → Type 0
 CallTransition next old objects need reply new objects' turn =
     (stands : CallTurn) × AfterReply next old.call.frames old.call.asked objects need reply stands
@@ -77,35 +77,35 @@ abbrev pub AsksPin : PortTurn → Type 0
 AsksPin (Ask (requests.Pin now at_least)) = Unit {0}
 AsksPin turn = ⊥
 
--- the call of the machine and the objects stand as they were, and no pin is under way
+-- the call of the machine and the objects are unchanged, and no pin is being made
 pub record StandsStill (old : CoreValue) (objects : Objects) (new : CoreValue) (objects' : Objects) : Type 0 where
   pub same_call : new.call ≡ old.call
   pub same_objects : objects' ≡ objects
   pub none : new.pinning ≡ None
 
--- the call stands at its start, the objects as they were, and no pin is under way
+-- the call is at its start, the objects are unchanged, and no pin is being made
 pub record StandsAtStart (objects : Objects) (k : Call) (new : CoreValue) (objects' : Objects) : Type 0 where
   pub call : new.call ≡ started k
   pub same_objects : objects' ≡ objects
   pub none : new.pinning ≡ None
 
--- where its function is there, the call stands at its start, and is looked up first; where there is none, it is
--- refused, and all stands still
+-- if its function exists, the call is at its start, and is looked up first; otherwise it fails, and nothing
+-- changes
 pub record BeginTransition (old : CoreValue) (objects : Objects) (k : Call) (new : CoreValue) (objects' : Objects)
     (turn : PortTurn) : Type 0 where
   pub there : IsSome (activity_of objects k.function) → StandsAtStart objects k new objects' × AsksLookup k turn
   pub absent : IsNone (activity_of objects k.function) → StandsStill old objects new objects'
       × (turn ≡ Ended (Err (errors.Call (NoFunction k.function))))
 
--- what comes of the pin of the present: the call that waited for it begins; or the open one stands as it did,
--- and asks its query
+-- the effect of the pin of the present: the call that waited for it begins; or the open one is unchanged, and
+-- makes its query
 abbrev pub PresentPinTransition : Option Call → CoreValue → Objects → CoreValue → Objects → PortTurn → Type 0
 PresentPinTransition (Some k) old objects new objects' turn = BeginTransition old objects k new objects' turn
 PresentPinTransition None old objects new objects' turn = StandsStill old objects new objects' × IsAsk turn
 
 -- ---- replies
 
--- what a node has counts where a member lies in its reach; anything else is a miss
+-- a hit counts if a member is in its reach; anything else is a miss
 pub record HitTransition (next : Next) (old : CoreValue) (objects : Objects) (k : Call) (hit : Shown)
     (new : CoreValue) (objects' : Objects) (turn : PortTurn) : Type 0 where
   pub held : kept hit.reach old.pins.members ≢ []
@@ -113,9 +113,9 @@ pub record HitTransition (next : Next) (old : CoreValue) (objects : Objects) (k 
   pub none : kept hit.reach old.pins.members ≡ []
       → CallTransition next old objects (needs.Lookup k) replies.Miss new objects' turn
 
--- What comes of a reply. A pin is to be added, and one that is not added has its hold taken away, after which
--- the call is refused for the reason. What a node or the database has goes to the call. What the database
--- refuses, the call is refused for.
+-- The effect of a reply. A pin must be added, and one that is not added has its hold removed, after which the
+-- call fails for that reason. A node's hit or the database's answer goes to the call. An error of the database
+-- ends the call.
 abbrev pub ReplyTransition : Next → CoreValue → Objects → PortReply → CoreValue → Objects → PortTurn → Type 0
 ReplyTransition next old objects (ports.Pin (Ok pinned)) new objects' turn = turn ≡ Ask (requests.AddPin pinned)
 ReplyTransition next old objects (ports.Pin (Err error)) new objects' turn = turn ≡ Ended (Err (refused_request error))
@@ -140,8 +140,7 @@ ReplyTransition next old objects (ports.Insert kept) new objects' turn =
     (entry : Entry) → old.call.need ≡ Some (needs.Insert entry)
     → CallTransition next old objects (needs.Insert entry) replies.Inserted new objects' turn
 
--- a pin of the present is asked for, after which the call is to begin; the machine and the objects stand as they
--- were
+-- a pin of the present is requested, after which the call begins; the machine and the objects are unchanged
 pub record WaitsForPresent (old : CoreValue) (objects : Objects) (k : Call) (new : CoreValue) (objects' : Objects)
     (turn : PortTurn) : Type 0 where
   pub asks : AsksPin turn
@@ -149,7 +148,7 @@ pub record WaitsForPresent (old : CoreValue) (objects : Objects) (k : Call) (new
   pub same_call : new.call ≡ old.call
   pub same_objects : objects' ≡ objects
 
--- what comes of a call that is to begin: where there is no member, a pin of the present is asked for first
+-- the effect of the beginning of a call: if there is no member, a pin of the present is requested first
 pub record StartTransition (old : CoreValue) (objects : Objects) (k : Call) (new : CoreValue) (objects' : Objects)
     (turn : PortTurn) : Type 0 where
   pub pins : old.pins.members ≡ [] → WaitsForPresent old objects k new objects' turn

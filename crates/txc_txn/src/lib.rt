@@ -1,17 +1,11 @@
-//! Read-only transactions, as a core that asks for one port request at a time.
+//! Read-only transactions, as a core that makes one port request at a time.
 #![tactic(auto)]
 
-mod answers;
-mod by_hand;
-mod choosing;
-mod hearing;
 pub mod laws;
 mod pinning;
 mod receipt;
 mod running_txn;
 mod session;
-mod steps;
-mod turns;
 mod txn_core;
 
 pub use pinning::{PinStep, Pinning};

@@ -5,14 +5,14 @@ use txc_ports::TxnError;
 use txc_stamp::Stamp;
 use txc_tags::Key;
 
-/// How far a pin of the present has come.
+/// Steps of pinning the present.
 #[derive(Clone, Copy, Debug)]
 pub enum PinStep {
-    /// The database is asked for it.
+    /// The pin was requested from the database.
     Asked,
-    /// The pincushion is asked to add it.
+    /// The pincushion was requested to add it.
     Adding(Pin),
-    /// The pincushion refused it, for this reason, and the database is asked to take its hold away.
+    /// The pincushion did not add it, for this reason, and the database was requested to remove its hold.
     Dropping(Stamp, TxnError),
 }
 
@@ -20,14 +20,14 @@ pub enum PinStep {
 #[derive(Debug, Drop)]
 pub struct Pinning {
     pub step: PinStep,
-    /// The call that begins after it; none where the open call goes on with a query.
+    /// The call that begins afterwards, or `None` if the open call continues with a query.
     pub first: Option<Key>,
 }
 
 impl Pinning {
     ghost use Rattle.txc_txn.specs.Core.{left_stamp};
 
-    // The stamp that was pinned and was not added, if there is one.
+    // Returns the stamp that was pinned and not added, if there is one.
     pub(crate) fn left(&self) -> Option<Stamp>
         ensures { result ≡ left_stamp self.now.step }
     {

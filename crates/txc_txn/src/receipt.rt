@@ -3,22 +3,22 @@ use txc_db::HistoryFront;
 use txc_ports::Recorded;
 use txc_stamp::Stamp;
 
-/// What a read-only transaction was answered, and where it was serialised.
+/// Result of a committed read-only transaction: its snapshot, and every value that it read.
 #[derive(Drop)]
 pub struct Receipt {
-    /// The pin of the stamp at which every answer is right; none where no call was answered.
+    /// The pin of the stamp at which every value is correct, or `None` if no call was completed.
     pub pin: Option<Pin>,
-    /// The calls that were answered, with their values, in order.
+    /// The completed calls, with their values, in order.
     pub answers: Vec<Recorded>,
-    /// What the transaction has seen of the history. It shows the pin.
+    /// The history that the transaction has seen. It shows the pin.
     pub seen: HistoryFront,
 }
 
-/// What a transaction that was given up leaves to be done.
+/// Remaining work of a cancelled transaction.
 #[derive(Drop)]
 pub struct Left {
-    /// The pins to be given back to the pincushion, by their stamps.
+    /// The stamps of the pins that must be returned to the pincushion.
     pub give_back: Vec<Stamp>,
-    /// A stamp that was pinned and not added: its hold is to be taken away.
+    /// A stamp that was pinned and not added: its hold must be removed.
     pub unpin: Option<Stamp>,
 }

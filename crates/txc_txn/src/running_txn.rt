@@ -1,4 +1,4 @@
-//! A core with the registry of its functions, which keeps what its pin set means.
+//! A core with the registry of its functions, whose pin set stays correct.
 ghost use Rattle.std.specs.Prelude.{◌≡◌, None, Some};
 ghost use Rattle.std.specs.Option.{ForSome};
 ghost use Rattle.txc_registry.specs.Objects.{numbers_of, AllIdle};
@@ -15,14 +15,14 @@ use txc_registry::{Cacheable, Registry};
 use txc_stamp::Stamp;
 use txc_tags::Key;
 
-/// A read-only transaction with the registry of its functions. In the history that it has seen, its pin set
-/// means what it says.
+/// A read-only transaction with the registry of its functions. Its pin set is correct in the history that it
+/// has seen.
 pub struct RunningTxn<A: App, C: Cacheable> {
     core: TxnCore,
     registry: Registry<A, C>,
 }
 
-// Not derived: a derived one is proved again in each crate above.
+// Not derived, since a derived one would be proved again in each crate above.
 impl<A: App, C: Cacheable> Drop for RunningTxn<A, C> {
     fn drop(self) {
         let RunningTxn {
@@ -47,7 +47,7 @@ impl<A: App, C: Cacheable> RunningTxn<A, C> {
     ghost use Rattle.txc_txn.specs.Core.{left_pin, receipt_pin, value_of, Explains, IsAnswered, IsIdle};
     ghost use Rattle.txc_txn.specs.Kept.{HasBegunCall, HasGoneOn, IsShownRight, IsTxn};
 
-    /// The core with its registry, where its pin set means what it says in the history that it has seen.
+    /// Joins the core with its registry. The pin set must be correct in the history that the core has seen.
     pub fn new(core: TxnCore, registry: Registry<A, C>) -> RunningTxn<A, C>
         requires { IsTxn A.next (record { core = value_of core; objects = registry }) }
         ensures { result ≡ record { core = value_of core; objects = registry } }
@@ -55,21 +55,22 @@ impl<A: App, C: Cacheable> RunningTxn<A, C> {
         RunningTxn { core, registry }
     }
 
-    /// The core.
+    /// Returns the core.
     pub fn core(&self) -> &TxnCore
         ensures { value_of result.now ≡ self.now.core }
     {
         &self.core
     }
 
-    /// What holds of every such transaction. It does nothing when it runs.
+    /// Every such transaction is correct in the history that it has seen. This is a lemma: it does nothing when
+    /// it runs.
     pub fn is_kept(&self)
         ensures { IsTxn A.next self.now }
     {
         let _core = &self.core;
     }
 
-    /// Begins a call.
+    /// Begins a call, and returns its first request, its value or its error.
     pub fn start(&mut self, alloc: Global, key: Key) -> Turn<PortRequest, Value>
         requires { IsIdle self.old.core }
         ensures { HasBegunCall self.old key self.new result }
@@ -77,7 +78,7 @@ impl<A: App, C: Cacheable> RunningTxn<A, C> {
         self.core.start(alloc, &mut self.registry, key)
     }
 
-    /// Goes on with the reply to what it asked, which is right in the history that it shows.
+    /// Continues with the reply to the last request. The reply must be correct in the history that it shows.
     pub fn next(&mut self, alloc: Global, reply: PortReply) -> Turn<PortRequest, Value>
         requires reply { IsAnswered self.old.core reply }
         requires row { ForSome (front_of_reply reply) (λ front. front.events ≡ self.old.core.seen.events) }
@@ -87,8 +88,8 @@ impl<A: App, C: Cacheable> RunningTxn<A, C> {
         self.core.next(alloc, &mut self.registry, reply)
     }
 
-    /// Gives the open call up, if one is, and returns a stamp that was pinned and not added: its hold is to be taken
-    /// away. The transaction is open still, with its answers. It takes no memory.
+    /// Cancels the open call, if there is one, and returns a stamp that was pinned and not added: its hold must
+    /// be removed. The transaction stays open, with its results. Does not allocate.
     pub fn give_up(&mut self) -> Option<Stamp>
         ensures unpin { result ≡ left_pin self.old.core.pinning }
         ensures idle { IsIdle self.new.core }
@@ -103,8 +104,8 @@ impl<A: App, C: Cacheable> RunningTxn<A, C> {
         unpin
     }
 
-    /// Ends the transaction, and returns what explains its answers, the pins to be given back, by their
-    /// stamps, and the registry. It takes no memory.
+    /// Ends the transaction, and returns its receipt, the stamps of the pins that must be returned, and the
+    /// registry. Does not allocate.
     pub fn finish(self) -> (Receipt, Vec<Stamp>, Registry<A, C>)
         requires { IsIdle self.core }
         ensures answers { result.0.answers.items ≡ self.core.recorded }
@@ -121,8 +122,8 @@ impl<A: App, C: Cacheable> RunningTxn<A, C> {
         (receipt, give_back, registry)
     }
 
-    /// Gives the transaction up, in the middle of a call too, and returns what is left to be done, and the
-    /// registry. It takes no memory.
+    /// Cancels the transaction, also in the middle of a call, and returns the remaining work, and the registry.
+    /// Does not allocate.
     pub fn cancel(self) -> (Left, Registry<A, C>)
         ensures give_back { result.0.give_back.items ≡ self.core.taken }
         ensures unpin { result.0.unpin ≡ left_pin self.core.pinning }

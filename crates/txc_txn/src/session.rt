@@ -1,4 +1,4 @@
-//! How far a caller has come in a history.
+//! A caller's least stamp in a history.
 ghost use Rattle.std.specs.Prelude.{◌≡◌, ◌++◌, ◌∷◌, [], List, max};
 ghost use Rattle.txc_db.specs.Seen.{FrontValue};
 ghost use Rattle.txc_txn.specs.Sessions.{floor_after, noted_commit, noted_receipt, Deed, IsFloorOf};
@@ -8,11 +8,11 @@ use std::marker::Model;
 use txc_cushion::Pin;
 use txc_stamp::Stamp;
 
-/// How far a caller has come in the history of a database. Its floor is the greatest stamp of the receipts
-/// and of the commits that the caller noted; a transaction that begins in the session reads nothing older.
+/// A caller's position in the history of a database. Its floor is the greatest stamp of the receipts and of the
+/// commits that the caller noted; a transaction that begins in the session reads nothing older.
 ///
-/// A session is used with one database: a stamp of another one says nothing of the states of this one. It
-/// may be used with any number of clients of that database, one after the other.
+/// A session belongs to one database: a stamp of another one means nothing in this one. Any number of clients
+/// of that database may use it, one after the other.
 #[derive(Debug, Drop)]
 pub struct Session {
     floor: Stamp,
@@ -26,7 +26,7 @@ impl Model for Session {
     ghost view = { λ s. s.floor };
 }
 
-// The greater of the two.
+// Returns the greater of the two.
 fn later(one: Stamp, other: Stamp) -> Stamp
     ensures { result ≡ max one other }
 {
@@ -34,7 +34,7 @@ fn later(one: Stamp, other: Stamp) -> Stamp
 }
 
 impl Session {
-    /// The session of a caller that has noted nothing.
+    /// Makes the session of a caller that has noted nothing.
     pub fn new() -> Session
         ensures floor { result ≡ 0 }
         ensures nothing { IsFloorOf [] result }
@@ -42,14 +42,14 @@ impl Session {
         Session { floor: Stamp::ZERO }
     }
 
-    /// The greatest stamp that was noted; the first one where none was.
+    /// Returns the greatest noted stamp, or the first stamp if none was noted.
     pub fn floor(&self) -> Stamp
         ensures { result ≡ self.now }
     {
         self.floor
     }
 
-    /// Notes the receipt of a read-only transaction, by its pin. One without a pin changes nothing.
+    /// Notes the pin of a read-only transaction's receipt. A receipt without a pin changes nothing.
     pub fn note_receipt(&mut self, receipt: &Receipt)
         ensures floor { self.new ≡ floor_after self.old receipt.now.pin }
         ensures noted { (deeds : List Deed) → IsFloorOf deeds self.old
@@ -58,7 +58,7 @@ impl Session {
         self.note_pin(receipt.pin);
     }
 
-    /// Notes the pin of a receipt, where that is all that is known of it.
+    /// Notes the pin of a receipt, for a caller that has only the pin.
     pub fn note_pin(&mut self, pin: Option<Pin>)
         ensures { self.new ≡ floor_after self.old pin }
     {
@@ -67,7 +67,7 @@ impl Session {
         }
     }
 
-    /// Notes the stamp that a commit of a read-write transaction left.
+    /// Notes the newest stamp after a commit of a read-write transaction.
     pub fn note_commit(&mut self, stamp: Stamp)
         ensures floor { self.new ≡ max self.old stamp }
         ensures noted { (deeds : List Deed) (seen : FrontValue) → IsFloorOf deeds self.old

@@ -1,4 +1,4 @@
-//! Functions: their definitions, their objects, registries of them; and a call, answered by hand.
+//! Functions: their definitions, their objects, registries of them; and a call with replies made by hand.
 ghost use Rattle.std.specs.Prelude.{◌≡◌, IfOk};
 ghost use Rattle.txc_functions.specs.AnyFunction.{ALL_NUMBERS};
 ghost use Rattle.txc_registry.specs.Objects.{numbers_of, AllIdle};
@@ -16,12 +16,12 @@ use txc_permits::PermitPool;
 use txc_registry::{Cacheable, Registry, enlist};
 use txc_tags::Key;
 
-/// No rows, as an answer.
+/// Returns an answer of no rows.
 fn none(alloc: Global) -> Answer {
     Answer::Rows(Rows::new(Vec::new(alloc)))
 }
 
-/// Whether a function gives a value after one answer.
+/// Returns `true` if a function returns a value after one answer.
 fn is_done<D: Definition>(alloc: Global, function: &D) -> Result<bool> {
     if !function.accepts(&[7]) {
         return Ok(function.number() > 7);
@@ -33,7 +33,7 @@ fn is_done<D: Definition>(alloc: Global, function: &D) -> Result<bool> {
     Ok(matches!(next, Ask::Done(_)))
 }
 
-/// The same of each definition.
+/// Returns `true` if each definition returns a value after one answer.
 pub fn definitions(alloc: Global) -> Result<bool> {
     let one = is_done(alloc, &BodyAt)? || is_done(alloc, &BodiesIn)?;
     let other = is_done(alloc, &BodiesAndBody)? || is_done(alloc, &RowCount)?;
@@ -42,7 +42,7 @@ pub fn definitions(alloc: Global) -> Result<bool> {
     Ok(one || other || more || last || is_done(alloc, &Or::<BodyAt, Itself>::One(BodyAt))?)
 }
 
-/// An object of a function, and one in a box.
+/// Makes an object of a function, and one in a box.
 pub fn boxes(alloc: Global) -> Result<bool> {
     let mut pool = PermitPool::new(alloc, 1)?;
     let mut object = Function::new(alloc, pool.share()?, BodyAt);
@@ -57,7 +57,7 @@ pub fn boxes(alloc: Global) -> Result<bool> {
     Ok(usize::from(object.number()) < objects.len())
 }
 
-/// An activation in a registry.
+/// Runs an activation in a registry.
 pub fn activation(alloc: Global) -> Result<bool> {
     let mut pool = PermitPool::new(alloc, 4)?;
     let objects = object_of_each(alloc, &mut pool)?;
@@ -72,7 +72,7 @@ pub fn activation(alloc: Global) -> Result<bool> {
     Ok(registry.resume(0, none(alloc)).is_ok())
 }
 
-/// A call that no node has.
+/// Runs a call that no node has.
 pub fn call(alloc: Global) -> Result<bool> {
     let mut pool = PermitPool::new(alloc, 4)?;
     let mut registry = registry(alloc, &mut pool)?;
@@ -84,7 +84,7 @@ pub fn call(alloc: Global) -> Result<bool> {
     Ok(is_open)
 }
 
-/// The program's functions.
+/// Returns the program's functions.
 pub fn functions(alloc: Global) -> Result<Registry<Program, Object>>
     ensures idle { IfOk result AllIdle }
     ensures numbers { IfOk result (λ registry. numbers_of registry ≡ ALL_NUMBERS) }

@@ -17,7 +17,7 @@ const SETTINGS: NodeSettings = NodeSettings {
     recent: 16,
 };
 
-/// One pass more, by its number.
+/// Adds a pass, and returns its number.
 fn drawn(node: &mut StoredNode<Program>) -> Result<usize>
     ensures number { IfOk result (λ pass. pass < node.new.passes) }
     ensures seen { IfOk result (λ pass. node.new.seen ≡ node.old.seen) }
@@ -25,7 +25,7 @@ fn drawn(node: &mut StoredNode<Program>) -> Result<usize>
     Ok(node.pass()?)
 }
 
-/// A lookup, and the insertion of what it finds.
+/// Makes a lookup, and inserts its result.
 fn find(alloc: Global, node: &mut StoredNode<Program>) -> Result<bool> {
     let pass = drawn(node)?;
     let key = Key::read(b"f0(7)")?;
@@ -43,7 +43,7 @@ fn find(alloc: Global, node: &mut StoredNode<Program>) -> Result<bool> {
     Ok(true)
 }
 
-/// An event of the database that is taken.
+/// Lets the node take an event of the database.
 fn take(alloc: Global, node: &mut StoredNode<Program>, database: &DbCore) -> Result<usize>
     requires { node.old.seen.events ≡ database.now.events }
 {
@@ -55,13 +55,13 @@ fn take(alloc: Global, node: &mut StoredNode<Program>, database: &DbCore) -> Res
     Ok(turn)
 }
 
-/// A sweep.
+/// Makes a sweep.
 fn sweep(alloc: Global, node: &mut StoredNode<Program>) -> Result<usize> {
     let pass = drawn(node)?;
     Ok(node.sweep(alloc, pass, Stamp::ZERO)?)
 }
 
-/// Whether a node shows what it was made of.
+/// Returns `true` if the node shows the settings with which it was made.
 fn is_whole(node: &StoredNode<Program>) -> bool {
     node.is_sound();
     let is_open = !node.is_broken() && node.counts().is_some() && !node.front().is_full();
@@ -69,7 +69,7 @@ fn is_whole(node: &StoredNode<Program>) -> bool {
     is_open && is_new && node.settings() == SETTINGS
 }
 
-/// The steps of passes through a new node.
+/// Makes the steps of passes at a new node.
 fn steps(alloc: Global, database: &DbCore, mut node: StoredNode<Program>) -> Result<(usize, bool)>
     requires { node.seen.events ≡ database.now.events }
 {
@@ -80,7 +80,7 @@ fn steps(alloc: Global, database: &DbCore, mut node: StoredNode<Program>) -> Res
     Ok((taken.max(swept), is_whole && !is_found))
 }
 
-/// The same, where the history is stored.
+/// Makes them at a node whose history is stored.
 pub fn stored(alloc: Global) -> Result<(usize, bool)> {
     let database = DbCore::new(alloc, 4)?;
     let (row, seen) = (EventRow::new(alloc, 16)?, database.reader()?);
@@ -90,7 +90,7 @@ pub fn stored(alloc: Global) -> Result<(usize, bool)> {
     Ok((taken, is_stored && is_whole))
 }
 
-/// The same, where it is not.
+/// Makes them at a node whose history is ghost.
 pub fn unstored(alloc: Global) -> Result<(usize, bool)> {
     let database = DbCore::new(alloc, 4)?;
     let seen = database.reader()?;

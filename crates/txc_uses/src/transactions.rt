@@ -1,4 +1,4 @@
-//! Transactions, each reply given by hand.
+//! Transactions, with replies made by hand.
 ghost use Rattle.std.specs.Prelude.{◌≡◌, [], IfOk};
 ghost use Rattle.txc_txn.specs.Core.{IsIdle};
 
@@ -23,7 +23,7 @@ const BOUNDS: Bounds = Bounds {
     at_least: Stamp::ZERO,
 };
 
-/// No pins.
+/// Returns no pins.
 fn no_pins(alloc: Global) -> Result<Pins>
     ensures { IfOk result (λ pins. pins.pins.items ≡ []) }
 {
@@ -32,7 +32,7 @@ fn no_pins(alloc: Global) -> Result<Pins>
     Ok(Pins { pins, front })
 }
 
-/// A pin set, which a reach would empty.
+/// Makes a pin set, and a reach that would empty it.
 pub fn pin_set(alloc: Global) -> Result<bool> {
     let mut set = PinSet::begin(alloc, &no_pins(alloc)?)?;
     set.is_pin_set();
@@ -42,7 +42,7 @@ pub fn pin_set(alloc: Global) -> Result<bool> {
     Ok(is_empty && is_present && !is_narrow)
 }
 
-/// A transaction with its functions.
+/// Begins a transaction with its functions.
 fn begun(alloc: Global) -> Result<RunningTxn<Program, Object>>
     ensures { IfOk result (λ txn. IsIdle txn.core) }
 {
@@ -53,7 +53,7 @@ fn begun(alloc: Global) -> Result<RunningTxn<Program, Object>>
     }
 }
 
-/// A transaction that ends, and one whose call finds the database full.
+/// Runs a transaction to its end, and one whose call finds the database full.
 pub fn running(alloc: Global) -> Result<usize> {
     let (receipt, stamps, _) = begun(alloc)?.finish();
     let mut txn = begun(alloc)?;
@@ -68,7 +68,7 @@ pub fn running(alloc: Global) -> Result<usize> {
     Ok(given.max(members).max(receipt.answers.len()))
 }
 
-/// A core that ends.
+/// Runs a core to its end.
 pub fn finished(alloc: Global) -> Result<usize> {
     match TxnCore::begin(alloc, 1, 5000, BOUNDS, no_pins(alloc)?) {
         Ok(core) => {
@@ -80,7 +80,7 @@ pub fn finished(alloc: Global) -> Result<usize> {
     }
 }
 
-/// A core to which a registry is lent, and whose call finds the database full.
+/// Runs a core that is lent a registry, and whose call finds the database full.
 pub fn given_up(alloc: Global) -> Result<usize> {
     let mut registry = functions(alloc)?;
     let key = Key::read(b"f0(7)")?;
@@ -97,7 +97,7 @@ pub fn given_up(alloc: Global) -> Result<usize> {
     }
 }
 
-/// Read-write transactions: one that asks a query, and one that is given up in a call.
+/// Runs read-write transactions: one that makes a query, and one that is aborted in a call.
 pub fn updates(alloc: Global) -> Result<usize> {
     let mut registry = functions(alloc)?;
     let mut asking = RwCore::begin(alloc, Stamp::ZERO);

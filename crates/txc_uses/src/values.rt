@@ -1,4 +1,4 @@
-//! A history of numbers, a world, and what no library calls of stamps, tags, a node, scripts and answers.
+//! Calls of functions of stamps, tags, nodes, scripts and answers that no library above calls.
 use anyhow::{Context, Result};
 use std::alloc::Global;
 use std::convert::Infallible;
@@ -10,7 +10,7 @@ use txc_stream::{AppendError, EventRow};
 use txc_tags::{Key, Table, Tag, TagSet};
 use txc_validity::answer_counted;
 
-/// Two fronts of one history.
+/// Makes two fronts of one history.
 pub fn fronts(alloc: Global) -> Result<(usize, bool)> {
     let row = EventRow::new(alloc, 2)?;
     let (mut one, mut other) = (row.start(), row.start());
@@ -31,7 +31,7 @@ pub fn fronts(alloc: Global) -> Result<(usize, bool)> {
     Ok((row.capacity(), *row.get(&again, 0) == next))
 }
 
-/// A reach as a span, and a tag that a set covers.
+/// Makes a span of a reach, and a set that covers a tag.
 pub fn spans(alloc: Global) -> Result<(String, bool)> {
     let span = Reach::new(0, 4, true)?.span(Stamp::after(7));
     let set = TagSet::read(alloc, b"t1:?")?;
@@ -42,14 +42,14 @@ pub fn spans(alloc: Global) -> Result<(String, bool)> {
     Ok((text, covers && same))
 }
 
-/// What is counted of a reply, and whether it is a refusal.
+/// Returns the counts of a reply, and whether it is a refusal.
 fn counted(alloc: Global, reply: Reply<Hit<'_>>) -> Result<(u64, bool)> {
     let mut counts = Counts::new();
     counts.count(Some(1), &reply);
     Ok((counts.events(), reply.into_owned(alloc)?.is_refusal()))
 }
 
-/// A lookup in an empty node.
+/// Makes a lookup in an empty node.
 pub fn misses(alloc: Global) -> Result<(u64, bool)> {
     let mut node = NodeCore::new(alloc, 8, 4)?;
     let key = Key::read(b"f1(7)")?;
@@ -59,7 +59,7 @@ pub fn misses(alloc: Global) -> Result<(u64, bool)> {
     }
 }
 
-/// What a version answers, and what is written of it.
+/// Returns the answer of a version, and its text.
 pub fn answers(alloc: Global) -> Result<(usize, u8)> {
     let table = Table::new(1).context("no table")?;
     let (query, stamp) = (Query::ById(table, 7), Stamp::after(1));

@@ -15,7 +15,7 @@ const SETTINGS: WorldSettings = WorldSettings {
     row_cap: 64,
 };
 
-/// A new world of two actors.
+/// Makes a new world of two actors.
 fn world(alloc: Global) -> Result<World<Program, Object>>
     ensures { IfOk result (λ world. 0 < world.told.settings.nodes) }
 {
@@ -24,7 +24,7 @@ fn world(alloc: Global) -> Result<World<Program, Object>>
     Ok(World::new(alloc, SETTINGS, actors)?)
 }
 
-/// What a new world shows.
+/// Reads the state of a new world.
 pub fn shown(alloc: Global) -> Result<usize> {
     let world = world(alloc)?;
     world.is_true();
@@ -37,7 +37,7 @@ pub fn shown(alloc: Global) -> Result<usize> {
     Ok(passes.max(actors).max(events))
 }
 
-/// Steps of an actor and of the keeper.
+/// Makes steps of an actor and of the keeper.
 pub fn steps(alloc: Global) -> Result<usize> {
     let mut world = world(alloc)?;
     let _reply = world.step(alloc, &Step::Actor(0, Act::BeginRw));

@@ -1,4 +1,4 @@
--- What is found for a query, in terms of the states.
+-- The answer that is found for a query, in terms of the states.
 use Rattle.std.specs.Prelude.{◌≡◌, ℕ}
 use Rattle.txc_rows.specs.declared.query.Query.{Query}
 use Rattle.txc_rows.specs.States.{State, answer}

@@ -1,4 +1,4 @@
--- What follows from the definition of a validity.
+-- Laws of validities.
 use Rattle.std.specs.Prelude.{◌≡◌, ◌≢◌, ℕ, ◌≤◌, ◌<◌, ◌+◌, ◌-◌, List}
 use Rattle.txc_stamp.specs.Interval.{Interval}
 use Rattle.txc_rows.specs.declared.query.Query.{Query}
@@ -15,13 +15,13 @@ SameWithin = (answers : ℕ → List RowValue) (t horizon newest : ℕ) (reach :
     → IsValidity answers t horizon newest reach
     → (s : ℕ) → reach.lo ≤ s → s ≤ reach.known → answers s ≡ answers t
 
--- the stamp below its first, where that is kept, has another
+-- the answer at the stamp below its first, if that is kept, differs
 abbrev pub DiffersBelow : Type 0
 DiffersBelow = (answers : ℕ → List RowValue) (t horizon newest : ℕ) (reach : Interval)
     → IsValidity answers t horizon newest reach
     → horizon < reach.lo → answers (reach.lo - 1) ≢ answers t
 
--- the stamp above its last, where that is kept, has another
+-- the answer at the stamp above its last, if that is kept, differs
 abbrev pub DiffersAbove : Type 0
 DiffersAbove = (answers : ℕ → List RowValue) (t horizon newest : ℕ) (reach : Interval)
     → IsValidity answers t horizon newest reach
@@ -38,7 +38,7 @@ KeptAnswersDecide = (answers others : ℕ → List RowValue) (t horizon newest :
     → ((s : ℕ) → horizon ≤ s → s ≤ newest → answers s ≡ others s)
     → IsValidity answers t horizon newest reach → IsValidity others t horizon newest reach
 
--- what versions show around a stamp holds as long as the states' answers
+-- the answer that versions give around a stamp holds as long as the states' answers
 abbrev pub AroundIsValid : Type 0
 AroundIsValid = (q : Query) (states : ℕ → State) (t horizon newest : ℕ) (vs : List Versioned) (reach : Interval)
     → ShowsAround q states horizon newest t vs → IsValidity (λ s. shown_at q s vs) t horizon newest reach

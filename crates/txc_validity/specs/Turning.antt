@@ -1,4 +1,4 @@
--- Where the answer of a query changes: words that only this crate's private functions promise.
+-- Changes of a query's answer: only the contracts of this crate's private functions use them.
 use Rattle.std.specs.Prelude.{◌≡◌, ◌⊎◌, ◌≤◌, ℕ, Some}
 use Rattle.txc_rows.specs.declared.version.Versioned.{Versioned}
 use Rattle.txc_rows.specs.Versions.{is_visible}

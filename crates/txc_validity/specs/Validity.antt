@@ -5,7 +5,7 @@ use Rattle.txc_rows.specs.Values.{RowValue}
 use Rattle.txc_rows.specs.Around.{HoldsOn}
 
 -- the largest interval of stamps around t, from the horizon to the newest stamp, on which the answer is the
--- same list; it is known to its last stamp, and still valid where that is the newest
+-- same list; it is known to its last stamp, and still valid if that is the newest
 pub record IsValidity (answers : ℕ → List RowValue) (t horizon newest : ℕ) (reach : Interval) : Type 0 where
   pub low : horizon ≤ reach.lo
   pub around : (reach.lo ≤ t) × (t ≤ reach.known)

@@ -13,7 +13,7 @@ use txc_rows::{Query, Row, Versioned};
 use txc_stamp::{Reach, Stamp};
 use txc_tags::TagSet;
 
-/// The answer of a query at a stamp, by id, with its validity and the query's tag.
+/// The answer of a query at a stamp, by id, with its validity interval and the query's tag.
 #[derive(Drop)]
 pub struct Found {
     pub rows: Vec<Row>,
@@ -21,15 +21,16 @@ pub struct Found {
     pub tags: TagSet,
 }
 
-/// An answer, and what it cost.
+/// An answer, and the number of tests that it took.
 #[derive(Drop)]
 pub struct Counted {
     pub found: Found,
-    /// How often a version was tested for being visible at a stamp.
+    /// The number of versions tested for visibility at a stamp.
     pub tests: usize,
 }
 
-/// The rows that the query shows at a stamp, by id where the versions are.
+/// Returns the rows that the query selects at a stamp, in the order of the versions. Fails only if memory
+/// cannot be allocated.
 pub fn rows_at(
     alloc: Global,
     versions: &[Versioned],
@@ -47,7 +48,7 @@ pub fn rows_at(
     Ok(rows)
 }
 
-/// The stamp before another.
+/// Returns the stamp before another.
 fn before(stamp: Stamp) -> Stamp
     requires { 1 ≤ stamp }
     ensures { result ≡ stamp - 1 }
@@ -55,7 +56,7 @@ fn before(stamp: Stamp) -> Stamp
     Stamp::after(stamp.number() as usize - 1)
 }
 
-/// Stamps around one, from a first to a last.
+/// A range of stamps around one, from a first to a last, both included.
 #[derive(Clone, Copy, Debug, PartialEq, Eq)]
 struct Stretch {
     first: Stamp,
@@ -63,10 +64,11 @@ struct Stretch {
 }
 
 impl Stretch {
-    /// What is left of it around the stamp where the version is visible as at the stamp.
+    /// Returns the part of the range around the stamp in which the version is visible exactly if it is at the
+    /// stamp.
     ///
-    /// A version that is visible there bounds the validity of what it is returned in; one that is not bounds
-    /// it too, as part of the mask of stamps at which the answer would have more rows.
+    /// A version that is visible there bounds the validity of the answer that has it. An invisible one bounds
+    /// it too: it belongs to the invalidity mask, the stamps at which the answer would have more rows.
     fn cut(self, version: &Versioned, stamp: Stamp, visible: bool) -> Stretch
         requires version { IsVersion version.now }
         requires around { (self.first ≤ stamp) × (stamp ≤ self.last) }
@@ -92,7 +94,7 @@ impl Stretch {
     }
 }
 
-/// The query's one tag.
+/// Returns the set of the query's single tag. Fails only if memory cannot be allocated.
 fn tags_of(alloc: Global, query: &Query) -> Result<TagSet, AllocError>
     ensures { IfOk result (λ tags. tags ≡ query_tag query.now ∷ []) }
 {
@@ -101,8 +103,7 @@ fn tags_of(alloc: Global, query: &Query) -> Result<TagSet, AllocError>
     Ok(tags)
 }
 
-/// The same as [`answer_at`], and beside it how often a version was tested for being visible at a stamp: once
-/// each.
+/// Returns the same answer as [`answer_at`], and the number of versions tested for visibility, each once.
 pub fn answer_counted(
     alloc: Global,
     versions: &[Versioned],
@@ -150,10 +151,12 @@ pub fn answer_counted(
     Ok(Counted { found, tests })
 }
 
-/// The answer of the query at a stamp from the horizon to the newest, from the row versions that match it.
+/// Returns the answer of the query at a stamp from the horizon to the newest, from the row versions that match
+/// it.
 ///
-/// The reach is known to its last stamp, and still valid where that is the newest one. One pass over the
-/// versions finds it: the stamps at which each version is visible as it is at this one.
+/// Its reach is the largest range around the stamp with the same answer; it is still valid if it ends at the
+/// newest stamp. One pass over the versions finds it. Fails if the stamp is outside the kept stamps, or if
+/// there is no memory.
 pub fn answer_at(
     alloc: Global,
     versions: &[Versioned],
@@ -172,7 +175,7 @@ pub fn answer_at(
         IsValidity (λ s. shown_at query.now s versions.now) stamp horizon newest f.reach) }
     ensures tag { IfOk result (λ f. f.tags ≡ query_tag query.now ∷ []) }
 
-    // Of any states whose answers the versions show, it is the answer and its validity.
+    // For any states whose answers the versions show, it is the answer and its validity.
     ensures answer { (states : ℕ → State)
         → ShowsAnswers query.now states horizon newest versions.now
         → IfOk result (λ f. IsAnswer states query.now stamp horizon newest f) }

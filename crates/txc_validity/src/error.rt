@@ -2,14 +2,14 @@ use std::alloc::{AllocError, AllocFailed};
 use thiserror::Error;
 use txc_stamp::Stamp;
 
-/// Why there is no answer.
+/// Errors of answering a query.
 #[derive(Clone, Copy, Debug, PartialEq, Eq, Error)]
 pub enum ValidityError {
-    /// The stamp lies outside the kept stamps, which go from the first one named, the horizon, to the second,
-    /// the newest.
-    #[error("the stamp lies outside the kept stamps")]
+    /// The stamp is outside the kept stamps. The fields are the first of these, the horizon, and the last, the
+    /// newest.
+    #[error("the stamp is outside the kept stamps, {0} to {1}")]
     OutsideKept(Stamp, Stamp),
-    /// The allocator had no memory for the answer.
+    /// Memory for the answer cannot be allocated.
     #[error("out of memory")]
     Memory,
 }

@@ -1,8 +1,8 @@
-//! What follows from the definitions. Each is a lemma: it has no code.
+//! Lemmas about the definitions. They have no code.
 ghost use Rattle.txc_validity.specs.Laws.{SameWithin, DiffersBelow, DiffersAbove, OneValidity, KeptAnswersDecide, AroundIsValid};
 
-/// A validity has the answer of its stamp throughout and another just outside, and there is only one. Versions that show the
-/// answers around a stamp have the validity of the answers.
+/// The answer is the same throughout a validity and another just outside, and there is only one such range.
+/// Versions that show the answers around a stamp have the validity of the answers.
 pub fn validity_is_the_largest()
     ensures within { SameWithin }
     ensures below { DiffersBelow }

@@ -1,9 +1,9 @@
-//! The answer of a query at a kept stamp, and its validity: the stamps around it on which the answer stays
-//! the same.
+//! The answer of a query at a kept stamp, and its validity: the stamps around it on which the answer stays the
+//! same.
 //!
-//! A result is cached with the exact stretch of stamps on which it holds: the stretch on which all returned
-//! rows stand (result tuple validity), without those on which others would (invalidity mask). The idea is that
-//! of Ports, Clements, Zhang, Madden and Liskov (OSDI 2010).
+//! A result is cached with the exact range of stamps on which it holds: the range on which all returned rows
+//! are visible (result tuple validity), without the stamps at which others would be (invalidity mask). The idea
+//! is that of Ports, Clements, Zhang, Madden and Liskov (OSDI 2010).
 #![tactic(auto)]
 
 mod answer;

@@ -12,6 +12,6 @@ AreHistoriesOf named number [] = Unit {0}
 AreHistoriesOf named number (history ∷ histories) =
     IsNew history × (history_name history ≡ named number) × AreHistoriesOf named (number + 1) histories
 
--- the history of each node is stored as the plan says, or is not
+-- the history of each node is stored, or is not, by the plan
 abbrev pub HaveHistoriesBy : Plan → (ℕ → Name) → Type 0
 HaveHistoriesBy p histories = (number : ℕ) → number < p.nodes → IsHistoryFor p.records (histories number)

@@ -21,14 +21,15 @@ IsPlan p =
     × IfSome p.events (λ room. (1 ≤ room) × (room ≤ MAX_ROOM))
     × IfSome p.records (λ room. (1 ≤ room) × (room ≤ MAX_ROOM))
 
--- how the node of this number is made
+-- the settings of the node of this number
 abbrev pub settings_of_node : Plan → ℕ → NodeSettings
 settings_of_node p number = record { number = number; capacity = p.capacity; recent = p.recent }
 
--- the most bytes of the values that a keep leaves in each node: an equal share of the plan's budget, if it has one
+-- the most bytes of the values that a keep leaves in each node: an equal share of the plan's budget, if it has
+-- one
 abbrev pub share_of : Plan → Option ℕ
 share_of p = option_map (λ bytes. bytes / max p.nodes 1) p.bytes
 
--- how the nodes are made, in order
+-- the settings of the nodes, in order
 abbrev pub nodes_of : Plan → List NodeSettings
 nodes_of p = map (λ number. settings_of_node p number) (range_with_len 0 p.nodes)

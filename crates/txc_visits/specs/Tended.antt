@@ -1,4 +1,4 @@
--- What the own keeper of a site did, by the site's plan.
+-- The effect of a site's own keeper, by the site's plan.
 use Rattle.std.specs.Prelude.{ℕ, Option, Result}
 use Rattle.txc_stream.specs.Names.{Name}
 use Rattle.txc_keeper.specs.declared.error.SiteError.{SiteError}
@@ -7,6 +7,6 @@ use Rattle.txc_keeper.specs.Tending.{IsTendedAs}
 use Rattle.txc_visits.specs.declared.plan.Plan.{Plan}
 use Rattle.txc_visits.specs.Plans.{nodes_of, share_of}
 
--- the own keeper of a site of this plan did what the plan says
+-- the own keeper of a site of this plan kept as the plan prescribes
 pub record IsTendedAsPlanned (plan : Plan) (tells : ℕ → Type 0) (row : Name) (came : Option (Result Tended SiteError)) : Type 0 where
   pub tended : IsTendedAs plan.keep (nodes_of plan) (share_of plan) tells row came

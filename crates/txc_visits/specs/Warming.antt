@@ -1,4 +1,4 @@
--- What nodes hold that goes over to a site over another database.
+-- The entries of nodes that a site over another database takes over.
 use Rattle.std.specs.Prelude.{◌≡◌, true, length}
 use Rattle.txc_stamp.specs.Interval.{Holds}
 use Rattle.txc_db.specs.History.{History, state_at}

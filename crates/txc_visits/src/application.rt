@@ -15,13 +15,14 @@ pub trait Application<D: Definition>: App {
     // The numbers of its functions, in order.
     ghost numbers: { List ℕ };
 
-    /// The functions. Each client asks for them anew.
+    /// Returns the functions. It is called for each client.
     fn definitions(alloc: Global) -> Result<Vec<D>, AllocError>
         ensures meaning { IfOk result (λ all. All (λ d. D.says d ≡ Self.next.says (D.number d)) all.items) }
         ensures numbers { IfOk result (λ all. map D.number all.items ≡ numbers) };
 }
 
-/// A registry of the application's functions, which take their permits of the pool.
+/// Makes a registry of the application's functions, which take their permits from the pool. Fails if two
+/// functions have one number, or memory cannot be allocated.
 pub fn registry<A: Application<D>, D: Definition>(
     alloc: Global,
     pool: &mut PermitPool,

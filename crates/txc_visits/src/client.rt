@@ -82,10 +82,9 @@ impl<'a, A: App, D: Definition, J: Naming> SiteClient<'a, A, D, J> {
         }
     }
 
-    /// Runs the page in one read-only transaction with these bounds, and commits that. The receipt is of the
-    /// calls that this page made: at the receipt's pin each has the value that it gives without a cache. They
-    /// were made once, from the client as it was. Where the page is refused, its transaction is given up. Either
-    /// way the client is returned.
+    /// Runs the page in one read-only transaction with these bounds, and commits it. The receipt lists the
+    /// calls that this page made, each once, from the client as it was: at the receipt's pin each has its
+    /// uncached value. If the page fails, its transaction is aborted. Either way the client is returned.
     pub fn read<P: Page<A, D>, R: Wait>(
         self,
         rt: &R,
@@ -131,15 +130,16 @@ impl<'a, A: App, D: Definition, J: Naming> SiteClient<'a, A, D, J> {
         (shown, client)
     }
 
-    /// No pins yet, for pages of this client that keep them for as long as the plan says.
+    /// Returns an empty set of kept pins, for pages of this client that reuse pins for as long as the plan
+    /// allows.
     pub fn keeping(&self) -> KeptPins<'a, J>
         ensures { result ≡ record { most = self.now.plan.keep_pins; handed = None } }
     {
         self.reader.keeping(self.foundation.plan.keep_pins)
     }
 
-    /// Runs the page as [`SiteClient::read`] does, in a transaction that begins with those of the kept pins that its
-    /// bounds allow; or, where these may not be used, with others, which are kept from then on.
+    /// Runs the page as [`SiteClient::read`] does, in a transaction that begins with those of the kept pins
+    /// that its bounds allow. If these may not be used, it begins with others, which are kept from then on.
     pub fn read_keeping<P: Page<A, D>, R: Wait>(
         self,
         rt: &R,
@@ -188,9 +188,9 @@ impl<'a, A: App, D: Definition, J: Naming> SiteClient<'a, A, D, J> {
         (shown, client, kept)
     }
 
-    /// Runs the change in a read-write transaction, and commits that. After a conflict it runs the change
-    /// anew, in a new transaction, as often as there are tries. What is returned is of the last run, which was
-    /// committed once. Where it is refused, nothing was. Either way the client is returned.
+    /// Runs the change in a read-write transaction, and commits it. After a conflict it runs the change again,
+    /// in a new transaction, at most `tries` times in all. The result is of the last run, which was committed
+    /// once. If this fails, nothing was committed. Either way the client is returned.
     pub fn write<C: Change<A, D>, R: Wait>(
         self,
         rt: &R,
@@ -240,7 +240,8 @@ impl<'a, A: App, D: Definition, J: Naming> SiteClient<'a, A, D, J> {
         (written, client)
     }
 
-    /// A keeper of the site, with a pass of its own through each node, and with each node's share of the plan's budget.
+    /// Makes a keeper of the site, with a new pass at each node, and with each node's share of the plan's
+    /// budget. Fails if a node gives no pass, or memory cannot be allocated.
     #[tactic(auto, using(crate::proofs::Tended::budgets_of))]
     pub fn keeper(&self, rt: &impl Wait, alloc: Global) -> Result<Keeper<'a, A, J>, SiteError>
         ensures nodes { IfOk result (λ keeper.
@@ -258,20 +259,21 @@ impl<'a, A: App, D: Definition, J: Naming> SiteClient<'a, A, D, J> {
         )
     }
 
-    /// How often it has committed a change.
+    /// Returns how many changes it has committed.
     pub fn commits(&self) -> u64
         ensures { result ≡ self.now.commits }
     {
         self.committer.commits()
     }
 
-    /// What the clock of a site that keeps itself showed last, in milliseconds. 0 where no clock was looked at.
+    /// Returns the last time that the clock of the site's automatic maintenance showed, in milliseconds, or 0
+    /// if it was not read.
     pub fn now(&self) -> u64 {
         self.foundation.moment.get()
     }
 
-    /// What all clients of the site have done by then, and what its nodes were asked, of which the client is then
-    /// shown all records. A node that refuses is left out.
+    /// Returns the work of all clients of the site so far, and the lookups at its nodes, whose records the
+    /// client is then shown. A node that fails is left out.
     pub fn numbers(&mut self, rt: &impl Wait) -> Numbers
         ensures same { self.new ≡ record self.old { reader = self.new.reader } }
         ensures reader { self.new.reader ≡ record self.old.reader { passes = self.new.reader.passes } }
@@ -281,8 +283,8 @@ impl<'a, A: App, D: Definition, J: Naming> SiteClient<'a, A, D, J> {
         numbers.with_nodes_of(rt, &mut self.reader)
     }
 
-    /// The counts of what the client has seen of a node; none where there is no such node, or its records are not
-    /// stored.
+    /// Returns the counts of the records that the client has seen of a node. Returns `None` if there is no such
+    /// node, or its records are not stored.
     pub fn counts(&self, node: usize) -> Option<Counts>
         ensures { MatchOption (slice_get self.now.reader.passes node)
             (result ≡ None)
@@ -293,8 +295,8 @@ impl<'a, A: App, D: Definition, J: Naming> SiteClient<'a, A, D, J> {
         self.reader.counts(node)
     }
 
-    /// The counts of all records of a node, stored or not, which the client is then shown; none where there is no
-    /// such node, or it refuses. It takes the node's lock, and no memory.
+    /// Returns the counts of all records of a node, stored or not, which the client is then shown. Returns
+    /// `None` if there is no such node, or the node fails. It takes the node's lock, and does not allocate.
     pub fn node_counts(&mut self, rt: &impl Wait, node: usize) -> Option<Counts>
         ensures same { self.new ≡ record self.old { reader = self.new.reader } }
         ensures reader { self.new.reader ≡ record self.old.reader { passes = self.new.reader.passes } }

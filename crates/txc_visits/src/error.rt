@@ -1,21 +1,21 @@
-//! Why a site is not opened, and why its last state is not read.
+//! Errors of opening a site, and of reading its last state.
 use std::alloc::AllocError;
 use thiserror::Error;
 use txc_keeper::SiteError;
 use txc_ledger::WriteError;
 use txc_pages::ReadError;
 
-/// Why a site was not opened, or its visits were lost.
+/// Errors of opening a site and running its threads.
 #[derive(Drop, Debug, Error)]
 pub enum OpenError {
-    /// The site was not made, or a client of a thread. No thread was started.
+    /// The site, or a client of a thread, cannot be made. No thread was started.
     #[error("{0}")]
     Site(SiteError),
     /// The opening was not written, and nothing of it was committed. No thread was started.
-    #[error("the opening was refused: {0}")]
+    #[error("the opening failed: {0}")]
     Opening(WriteError),
-    /// There was no memory for the threads. The opening was written. Some visits may have been made, and what
-    /// they gave is lost; others may not.
+    /// Memory for the threads cannot be allocated. The opening was written. Some threads may have run, and
+    /// their results are lost; others may not.
     #[error("out of memory for the threads")]
     Threads,
 }
@@ -43,10 +43,10 @@ impl From<AllocError> for OpenError {
     }
 }
 
-/// Why a page of the last state was not read.
+/// Errors of reading a page of the last state.
 #[derive(Clone, Copy, Debug, PartialEq, Eq, Error)]
 pub enum LastError {
-    /// There was no client for it.
+    /// A client for it cannot be made.
     #[error("{0}")]
     Site(SiteError),
     /// The page was not read.

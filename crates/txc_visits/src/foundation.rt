@@ -1,4 +1,4 @@
-//! What a site stands on.
+//! The shared parts of a site.
 ghost use Rattle.std.specs.Prelude.{◌≡◌, ◌≤◌, All, IfErr, IfOk, vec_len};
 ghost use Rattle.txc_db.specs.Shared.{IsDatabaseOf};
 ghost use Rattle.txc_keeper.specs.Refusals.{IsKeeperRefused};
@@ -17,7 +17,7 @@ use txc_keeper::{Clock, Keeping, Moment, Signal, SiteError, Tended, retire};
 use txc_ledger::{Committers, Ledger, NodeHistory};
 use txc_shared::{LeftNode, NodeSettings, SharedNode};
 
-/// The database with its pincushion, and its nodes, as the plan says.
+/// The database with its pincushion, and its nodes, by the plan.
 #[derive(Drop)]
 pub(crate) struct Foundation<A: App, J: Naming> {
     pub(crate) ledger: Ledger<J>,
@@ -29,7 +29,7 @@ pub(crate) struct Foundation<A: App, J: Naming> {
     ghost planned: { nodes.items ≡ nodes_of plan },
 }
 
-/// The nodes of the histories, by their numbers.
+/// Makes the nodes of the histories, by their numbers.
 fn nodes<A: App, J: Naming>(
     rt: &impl Wait,
     alloc: Global,
@@ -56,8 +56,8 @@ fn nodes<A: App, J: Naming>(
 }
 
 impl<A: App, J: Naming> Foundation<A, J> {
-    /// Puts the database and the nodes of these histories under their locks, for so many clients. Whoever is to
-    /// commit gets a committer.
+    /// Puts the database and the nodes of these histories under their locks, for `count` clients. It returns a
+    /// source of committers.
     pub(crate) fn new(
         rt: &impl Wait,
         alloc: Global,
@@ -85,7 +85,8 @@ impl<A: App, J: Naming> Foundation<A, J> {
         Ok((foundation, committers))
     }
 
-    /// What nodes of another site left goes over to these, as far as there are nodes of the same numbers.
+    /// Carries the entries of another site's nodes over to these, as far as there are nodes of the same
+    /// numbers.
     pub(crate) fn warm(&self, rt: &impl Wait, alloc: Global, warmth: Warmth<A>)
         requires { warmth.front.events ≡ J.database_history }
     {
@@ -102,7 +103,8 @@ impl<A: App, J: Naming> Foundation<A, J> {
         }
     }
 
-    /// The database without its lock, once no thread has it any more. No pin is held but one that is lost.
+    /// Returns the database without its lock, once no other thread has it. Only pins that were lost are still
+    /// held.
     fn into_core(self, rt: &impl Wait, alloc: Global) -> DbCore
         ensures database { IsDatabaseOf J.database_history result }
     {
@@ -117,7 +119,7 @@ impl<A: App, J: Naming> Foundation<A, J> {
         ledger.into_core()
     }
 
-    /// The same, and what its nodes hold once each has taken all events.
+    /// Returns the database, and the entries of its nodes once each has taken all events.
     fn into_parts(self, rt: &impl Wait, alloc: Global) -> (DbCore, Vec<LeftNode<A>>)
         ensures database { IsDatabaseOf J.database_history result.0 }
         ensures left { All (λ left. left.seen.events ≡ J.database_history) result.1.items }
@@ -134,7 +136,7 @@ impl<A: App, J: Naming> Foundation<A, J> {
         (ledger.into_core(), left)
     }
 
-    /// The database, and what its nodes hold where that goes over to those of the next site.
+    /// Returns the database, and the entries of its nodes if they go over to those of the next site.
     pub(crate) fn end(
         self,
         rt: &impl Wait,
@@ -151,8 +153,8 @@ impl<A: App, J: Naming> Foundation<A, J> {
     }
 }
 
-/// What the nodes held, where their records are not stored: each entry that goes over takes a record. Out of memory,
-/// it is that of the first nodes alone.
+/// Returns the entries of the nodes if their records are not stored: otherwise each carried entry would need a
+/// record. If memory cannot be allocated, it returns those of the first nodes only.
 fn leave_each<A: App, J: Naming>(
     rt: &impl Wait,
     alloc: Global,
@@ -173,7 +175,7 @@ fn leave_each<A: App, J: Naming>(
     left
 }
 
-/// Keeps it at this clock until the visitors have ended.
+/// Runs the maintenance at this clock until `ended` is set.
 #[tactic(auto, using(crate::proofs::Tended::tended_of))]
 pub(crate) fn keep_until_ended<A: App, J: Naming, C: Clock, R: Wait>(
     rt: &R,

@@ -1,4 +1,4 @@
-//! A visit of threads over histories that are named for it.
+//! The threads of a site over newly named histories.
 ghost use Rattle.std.specs.Prelude.{◌≡◌, ◌≤◌, All, IfErr, IfOk, length, vec_len};
 ghost use Rattle.txc_db.specs.Shared.{IsDatabaseOf};
 ghost use Rattle.txc_visits.specs.Sites.{IsVisitRefused, HaveCome};
@@ -28,19 +28,19 @@ use txc_ledger::NodeHistory;
 use txc_permits::PermitPool;
 use txc_shared::LeftNode;
 
-/// What threads gave that visited a site, and the site's own keeper; what they did in all, and the database as
-/// they left it.
+/// Results of the threads of a site, and of its automatic maintenance; their work in all, and the database
+/// after them.
 #[derive(Drop)]
 pub struct Visits<A: App, T> {
     pub outputs: Vec<T>,
     pub tended: Option<Result<Tended, SiteError>>,
     pub numbers: Numbers,
     pub core: DbCore,
-    /// Of a site that is one of several: what its nodes held, where their records are not stored.
+    /// For a site that is one of several: the entries of its nodes, if their records are not stored.
     pub left: Vec<LeftNode<A>>,
 }
 
-/// Lets the threads visit a site of the database and of new nodes.
+/// Runs the threads at a site of the database and of new nodes.
 pub fn over_new_histories<A, D, V, C, R>(
     rt: &R,
     alloc: Global,
@@ -74,7 +74,7 @@ where
     )
 }
 
-/// The same over histories that are the named ones.
+/// Runs the threads over the named histories.
 fn over_histories<A, D, V, J, C, R>(
     rt: &R,
     alloc: Global,

@@ -1,4 +1,4 @@
-//! The state that a site leaves.
+//! The last state of a site.
 ghost use Rattle.std.specs.Prelude.{◌≡◌, IfErr, IfOk, length, vec_len};
 ghost use Rattle.txc_db.specs.DatabaseValue.{front_of};
 ghost use Rattle.txc_visits.specs.Histories.{AreHistoriesOf, HaveHistoriesBy};
@@ -25,7 +25,7 @@ use txc_permits::PermitPool;
 use txc_ports::Bounds;
 use txc_stamp::Stamp;
 
-/// What a site leaves once all its threads have ended: its database. Contracts see the history of that.
+/// The database of a site whose threads have all ended. Contracts see its history.
 #[derive(Drop)]
 pub struct LastState {
     core: DbCore,
@@ -45,7 +45,7 @@ impl Model for LastState {
 }
 
 impl LastState {
-    /// What a site of this plan leaves, with this database.
+    /// Makes the last state of a site of this plan, with this database.
     pub fn new(core: DbCore, plan: Plan) -> LastState
         requires { IsPlan plan }
         ensures { result ≡ front_of core }
@@ -53,8 +53,8 @@ impl LastState {
         LastState { core, plan }
     }
 
-    /// Reads a page of the newest state, by a new client over new nodes. That takes an event, so that a database
-    /// which has no room for one refuses the page.
+    /// Reads a page of the newest state, by a new client over new nodes. That needs an event, so it fails if
+    /// the database has no room for one.
     #[tactic(auto, using(txc_pages::proofs::Pages::explained_newest, txc_pages::proofs::Pages::at_least_newest))]
     pub fn read<A, D, P, R>(
         self,
@@ -81,7 +81,7 @@ impl LastState {
     }
 }
 
-/// The same over histories that are the named ones.
+/// Reads the page over the named histories.
 #[tactic(auto, using(txc_pages::proofs::Pages::explained_by, txc_pages::proofs::Pages::at_least_by))]
 fn read_last<A, D, P, J, R>(
     rt: &R,

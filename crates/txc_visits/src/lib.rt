@@ -1,9 +1,9 @@
-//! Threads that visit a site, each by a client of its own.
+//! Worker threads of a site, each with a client of its own.
 //!
-//! [`over_new_histories`] makes a site of a database by a [`Plan`], and starts the threads. A [`Visitor`] does what
-//! each of these does, by a [`SiteClient`], which reads pages and writes changes. What they leave can be read once
-//! all have ended ([`LastState`]). Where a site goes on from another one ([`Succession`]), what the nodes of that held goes
-//! over ([`Warmth`]).
+//! [`over_new_histories`] makes a site of a database by a [`Plan`], and starts the threads. A [`Visitor`] is
+//! the work of each thread, by a [`SiteClient`], which reads pages and writes changes. Once all have ended, the
+//! last state can be read ([`LastState`]). If a site continues another one ([`Succession`]), the entries of the
+//! nodes are carried over ([`Warmth`]).
 #![tactic(auto)]
 
 mod application;

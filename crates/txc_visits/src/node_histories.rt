@@ -1,4 +1,4 @@
-//! Histories that nodes begin with.
+//! Histories for new nodes.
 ghost use Rattle.std.specs.Prelude.{◌≡◌, ◌≤◌, All, IfOk, IfSome, vec_len};
 ghost use Rattle.txc_stream.specs.declared.row.TheConstants.{MAX_CAPACITY as MAX_ROOM};
 ghost use Rattle.txc_carry.specs.Rooms.{IsHistoryFor};
@@ -8,7 +8,7 @@ use std::alloc::{AllocError, Global};
 use txc_ledger::NodeHistory;
 use txc_stream::{EventRow, Pen};
 
-/// A history without records, which is stored where there is to be room for so many.
+/// Makes a history without records, which is stored if `room` is a number of records.
 fn new_history(alloc: Global, room: Option<usize>) -> Result<NodeHistory, AllocError>
     requires { IfSome room (λ room. (1 ≤ room) × (room ≤ MAX_ROOM)) }
     ensures new { IfOk result IsNew }
@@ -20,7 +20,7 @@ fn new_history(alloc: Global, room: Option<usize>) -> Result<NodeHistory, AllocE
     }
 }
 
-/// A history for each of so many nodes.
+/// Makes a history for each of `nodes` nodes.
 pub(crate) fn new_histories(
     alloc: Global,
     nodes: usize,

@@ -1,4 +1,4 @@
-//! The numbers of a site.
+//! The counts of a site.
 ghost use Rattle.std.specs.Prelude.{◌≡◌, IfOk, vec_len};
 ghost use Rattle.txc_client.specs.Ports.{HaveGrown};
 
@@ -15,24 +15,25 @@ use txc_registry::Cacheable;
 use txc_shared::SharedNode;
 use txc_tags::LAST_FUNCTION;
 
-/// What the clients of a site have done by then, and what its nodes were asked.
+/// Counts of the work of a site's clients so far, and of the lookups at its nodes.
 #[derive(Clone, Copy, Debug, PartialEq, Eq)]
 pub struct Numbers {
-    /// Pages that were shown.
+    /// Pages that were read.
     pub pages: u64,
-    /// Changes that were committed, but for the opening.
+    /// Changes that were committed, without the opening.
     pub changes: u64,
-    /// Runs of changes that were in conflict, and are reported in a `Written` or in `WriteError::Conflicts`.
+    /// Runs of changes that ended with a conflict, and are reported in a `Written` or in
+    /// `WriteError::Conflicts`.
     pub conflicts: u64,
-    /// Pages and changes that were refused.
+    /// Pages and changes that failed.
     pub refusals: u64,
-    /// Lookups at the nodes, the hits among them too.
+    /// Lookups at the nodes, including the hits.
     pub lookups: u64,
     pub hits: u64,
 }
 
 impl Numbers {
-    /// What these clients have counted by then. The nodes were not asked.
+    /// Returns the counts of these clients so far, without the lookups at the nodes.
     pub(crate) fn of(tallies: &[Tally]) -> Numbers {
         let mut numbers = Numbers {
             pages: 0,
@@ -48,7 +49,7 @@ impl Numbers {
         numbers
     }
 
-    /// The same, with what one client has counted.
+    /// Adds the counts of one client.
     fn with_tally(self, tally: &Tally) -> Numbers {
         let more = |number: u64, by: &AtomicU64| number.wrapping_add(by.load(Ordering::SeqCst));
         Numbers {
@@ -60,7 +61,7 @@ impl Numbers {
         }
     }
 
-    /// The same, with what one node was asked.
+    /// Adds the lookups at one node.
     fn with_node(self, counts: &Counts) -> Numbers {
         let mut numbers = self;
         for function in 0..=LAST_FUNCTION {
@@ -71,7 +72,7 @@ impl Numbers {
         numbers
     }
 
-    /// The same, with what each node of a client was asked. A node that refuses is left out.
+    /// Adds the lookups at each node of a client. A node that fails is left out.
     #[tactic(auto, using(txc_client::proofs::Grown::have_grown_self, txc_client::proofs::Grown::have_grown_then))]
     pub(crate) fn with_nodes_of<A: App, C: Cacheable, J: Naming>(
         self,
@@ -90,8 +91,7 @@ impl Numbers {
         numbers
     }
 
-    /// The same, with what each of these nodes was asked, by a new pass through each. A node that refuses is left
-    /// out.
+    /// Adds the lookups at each of these nodes, by a new pass at each. A node that fails is left out.
     pub(crate) fn with_nodes<A: App, J: Naming>(
         self,
         rt: &impl Wait,
@@ -109,14 +109,14 @@ impl Numbers {
     }
 }
 
-/// What one client of a site counts, which the others read. Each number begins anew after 2^64.
+/// The counts of one client of a site, which the others read. Each number wraps after 2^64.
 #[derive(Drop)]
 pub(crate) struct Tally {
     pages: AtomicU64,
     changes: AtomicU64,
     conflicts: AtomicU64,
     refusals: AtomicU64,
-    // No two tallies lie in one line of a cache.
+    // It keeps two tallies out of one cache line.
     _apart: [u64; 12],
 }
 
@@ -131,7 +131,7 @@ impl Tally {
         }
     }
 
-    /// A tally for each of so many clients.
+    /// Makes a tally for each of `count` clients. Fails only if memory cannot be allocated.
     pub(crate) fn each(alloc: Global, count: usize) -> Result<Vec<Tally>, AllocError>
         ensures { IfOk result (λ tallies. vec_len tallies ≡ count) }
     {
@@ -142,7 +142,7 @@ impl Tally {
         Ok(tallies)
     }
 
-    /// Counts a page that was shown or refused.
+    /// Counts a page that was read or failed.
     pub(crate) fn count_read<T>(&self, shown: &Result<Shown<T>, ReadError>) {
         match shown {
             Ok(_) => self.pages.fetch_add(1, Ordering::SeqCst),
@@ -150,7 +150,7 @@ impl Tally {
         };
     }
 
-    /// Counts a change that was committed or refused, and the conflicts that are reported of it.
+    /// Counts a change that was committed or failed, and the conflicts reported with it.
     pub(crate) fn count_write<T>(&self, written: &Result<Written<T>, WriteError>) {
         let conflicts = match written {
             Ok(written) => {

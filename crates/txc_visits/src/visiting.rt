@@ -24,7 +24,7 @@ use txc_keeper::{Clock, Keeping, Signal, SiteError, Tended};
 use txc_ledger::Committers;
 use txc_permits::PermitPool;
 
-/// The client of this number, with a pass of its own through each node.
+/// Makes the client of this number, with a new pass at each node.
 #[tactic(auto, using(txc_keeper::proofs::NoPass::no_pass))]
 pub(crate) fn client<'a, A: Application<D>, D: Definition, J: Naming>(
     rt: &impl Wait,
@@ -64,7 +64,7 @@ struct Guest<C> {
     client: C,
 }
 
-/// A guest for each of so many threads.
+/// Makes the clients of `count` threads, by their numbers.
 fn guests<'a, A: Application<D>, D: Definition, J: Naming>(
     rt: &impl Wait,
     alloc: Global,
@@ -93,7 +93,7 @@ fn guests<'a, A: Application<D>, D: Definition, J: Naming>(
     Ok(guests)
 }
 
-/// Starts a thread for each guest, and returns what they gave, in the order of their numbers, once all have
+/// Starts a thread for each client, and returns their results, in the order of their numbers, once all have
 /// ended.
 fn visit_each<A, D, V, J, R>(
     rt: &R,
@@ -132,14 +132,15 @@ where
     }
 }
 
-/// What the guests gave, and what the site's own keeper did, where it has one.
+/// Results of the threads, and of the automatic maintenance, if there is one.
 #[derive(Drop)]
 pub(crate) struct Came<T> {
     pub(crate) outputs: Vec<T>,
     pub(crate) tended: Option<Result<Tended, SiteError>>,
 }
 
-/// The same, beside a thread that keeps the site until all guests have ended. Where none can be made, nobody does.
+/// Runs the threads in parallel with a thread for maintenance, until all have ended. If that thread cannot be
+/// made, there is no maintenance.
 fn visit_kept<A, D, V, J, C, R>(
     rt: &R,
     alloc: Global,
@@ -188,8 +189,8 @@ where
     )
 }
 
-/// Starts so many threads, each with a client of its own, and returns what they gave, in the order of their
-/// numbers, once all have ended. Where the plan says so, one more keeps the site meanwhile.
+/// Starts `count` threads, each with a client of its own, and returns their results, in the order of their
+/// numbers, once all have ended. If the plan asks for it, one more thread runs the maintenance meanwhile.
 #[tactic(auto, using(crate::proofs::Tended::planned_none, crate::proofs::Tended::planned_some))]
 pub(crate) fn visit<A, D, V, J, C, R>(
     rt: &R,

@@ -8,20 +8,20 @@ use txc_app::App;
 use txc_db::Naming;
 use txc_definition::Definition;
 
-/// What is done on each of the threads of a site. It is generic in what names the site's histories, so that
-/// nothing of one site is used with another.
+/// The work of each thread of a site. It is generic in the identity of the site's histories, so that nothing of
+/// one site is used with another.
 pub trait Visitor<A: App, D: Definition> {
     ghost use Rattle.std.specs.Prelude.{ℕ};
     ghost use Rattle.txc_stream.specs.Names.{Name};
     ghost use Rattle.txc_visits.specs.declared.plan.Plan.{Plan};
 
-    /// What a thread gives.
+    /// The result of a thread.
     type Output: Send + Drop;
 
-    // What the thread of a number gives, at a site of that plan, over a database of that row of events.
+    // The result of the thread of a number, at a site of that plan, over a database with that history.
     ghost gives: { Self → Plan → Name → ℕ → Self.Output → Type 0 };
 
-    /// Does what the thread of that number does, by a client of its own, which is new and which it takes.
+    /// Does the work of the thread of that number, by a client of its own, which is new and which it takes.
     fn visit<J: Naming + Send + Sync, R: Wait>(
         &self,
         rt: &R,

@@ -1,4 +1,4 @@
-//! What nodes hold goes over to the nodes of a site that goes on from the same state.
+//! Carrying entries over to the nodes of a site that continues from the same state.
 ghost use Rattle.std.specs.Prelude.{◌≡◌, ◌↔◌, All, IsTrue, MatchOption, length};
 ghost use mathlib.Core.List.{IsPrefix};
 ghost use Rattle.txc_app.specs.Claims.{IsTrueIn};
@@ -14,7 +14,7 @@ use txc_node::Entry;
 use txc_shared::{Advanced, LeftNode, NodePass, SharedNode};
 use txc_stamp::{MOST_STAMP, Reach};
 
-/// What the nodes of a site left, for those of a site that goes on from the same state.
+/// The entries of a site's nodes, for those of a site that continues from the same state.
 #[derive(Drop)]
 pub struct Warmth<A: App> {
     pub nodes: Vec<LeftNode<A>>,
@@ -26,16 +26,17 @@ pub struct Warmth<A: App> {
     ghost state: { EndInOneState whole front },
 }
 
-/// Whether a site is alone, or one of several of which each goes on from the one before.
+/// The place of a site: the only one, or one of several of which each continues the one before.
 #[derive(Drop)]
 pub enum Succession<A: App> {
-    /// Its nodes begin with nothing, and nothing of what they hold goes over.
+    /// Its nodes begin empty, and none of their entries is carried over.
     Alone,
-    /// Its nodes begin with what is given, and leave what they hold for those of the next site.
+    /// Its nodes begin with these entries, and leave theirs for those of the next site.
     InTurn(Option<Warmth<A>>),
 }
 
-/// Lets the node take all events, by a pass of its own. Where it refuses a pass or a step, the rest is left.
+/// Lets the node take all events, by a pass of its own. If a pass or a step fails, the remaining events are not
+/// taken.
 fn take_all<A: App, J: Naming>(rt: &impl Wait, alloc: Global, node: &SharedNode<A, J>) {
     let Ok(mut pass) = node.pass(rt) else {
         return;
@@ -47,7 +48,7 @@ fn take_all<A: App, J: Naming>(rt: &impl Wait, alloc: Global, node: &SharedNode<
     }
 }
 
-/// What the node holds once it has taken all events that it may take.
+/// Returns the entries of the node once it has taken all events that it can.
 pub(crate) fn leave<A: App, J: Naming>(
     rt: &impl Wait,
     alloc: Global,
@@ -60,8 +61,8 @@ pub(crate) fn leave<A: App, J: Naming>(
     node.leave()
 }
 
-/// An entry that holds at the newest stamp of the one history and is still valid there, as it begins at the newest
-/// stamp of the other. No other goes over.
+/// Returns an entry that is still valid at the newest stamp of the one history as one that begins at the newest
+/// stamp of the other. Returns `None` for any other entry.
 fn begun(mut entry: Entry, whole: &HistoryFront, front: &HistoryFront) -> Option<Entry>
     ensures { MatchOption result
         (¬ (IsValidAtEnd whole.now.history entry))
@@ -79,7 +80,7 @@ fn begun(mut entry: Entry, whole: &HistoryFront, front: &HistoryFront) -> Option
     Some(entry)
 }
 
-/// Inserts an entry as it begins, where it goes over. What is refused is left out.
+/// Inserts an entry as it begins, if it is carried over. If the insertion fails, the entry is left out.
 fn begin<A: App, J: Naming>(
     rt: &impl Wait,
     alloc: Global,
@@ -99,7 +100,7 @@ fn begin<A: App, J: Naming>(
     }
 }
 
-/// Whether the one front shows a beginning of what the other shows.
+/// Returns `true` if the one front shows a prefix of what the other shows.
 #[tactic(auto, using(txc_stream::proofs::Offered::shorter_begins, txc_stream::proofs::Offered::prefix_length))]
 fn begins(one: &HistoryFront, other: &HistoryFront) -> bool
     requires { one.now.events ≡ other.now.events }
@@ -109,8 +110,8 @@ fn begins(one: &HistoryFront, other: &HistoryFront) -> bool
     one.len() <= other.len()
 }
 
-/// What a node left goes over to that of its number, the least recently used first, so that it stands there in the
-/// same order.
+/// Carries the entries of a node over to the one of its number, the least recently used first, so that they
+/// have the same order there.
 pub(crate) fn warm<A: App, J: Naming>(
     rt: &impl Wait,
     alloc: Global,

@@ -1,4 +1,4 @@
--- Of which kinds the words of lines are to be, and what is wrong with them.
+-- The kinds of the words of lines, and the faults of these words.
 use Rattle.std.specs.Prelude.{◌≡◌, ◌<◌, ◌≤◌, ℕ, List, [], ◌∷◌, ◌++◌, Option, Some, map, option_map, codes, length, take, MatchOption}
 use Rattle.std.specs.List.{flat_map}
 use Rattle.txc_rows.specs.declared.row.TheConstants.{MAX_BODY_LEN}
@@ -22,7 +22,7 @@ use Rattle.txc_words.specs.declared.name.LineName.TheVariants as names
 use Rattle.txc_tags.specs.declared.text.number.TheConstants.{LAST_NUMBER}
 use Rattle.txc_words.specs.declared.said.TheConstants.{LAST_MOMENT}
 
--- ---- of which kinds words are to be
+-- ---- the kinds of words
 
 -- the number of an actor or a node
 abbrev pub place : WordKind
@@ -32,7 +32,7 @@ place = Number LAST_NUMBER
 abbrev pub moment : WordKind
 moment = Number LAST_MOMENT
 
--- words after a line's name: what each is called where the line's form is said, and of which kind it is to be
+-- words after a line's name: the name of each in the line's form, and its kind
 abbrev pub Parts : Type 0
 Parts = List (List ℕ × WordKind)
 
@@ -58,7 +58,7 @@ parts_of_change changes.Remove = (codes "TABLE", Table) ∷ (codes "ID", Id) ∷
 abbrev pub kinds_of_change : change_names.ChangeName → List WordKind
 kinds_of_change change = kinds_of (parts_of_change change)
 
--- the words after a line's name; of the three lines that end in a query or a change, those before it
+-- the words after a line's name; in the three lines that end in a query or a change, those before it
 abbrev pub parts_after : LineName → Parts
 parts_after names.Put = parts_of_change changes.Put
 parts_after names.Remove = parts_of_change changes.Remove
@@ -82,8 +82,8 @@ query_line first name = option_map (λ query. first ∷ QueryName ∷ kinds_of_q
 abbrev pub change_line : List ℕ → Option (List WordKind)
 change_line name = option_map (λ change. place ∷ ChangeName ∷ kinds_of_change change) (change_named name)
 
--- The kinds of the words after a line's name, the second of which is this one. In three lines that word names a
--- query or a change, and the words are of no known kinds where it does not.
+-- The kinds of the words after a line's name, of which the second word is this one. In three lines that word
+-- must name a query or a change; if it does not, the kinds are not known.
 abbrev pub kinds_after_name : LineName → List ℕ → Option (List WordKind)
 kinds_after_name names.Query second = query_line Stamp second
 kinds_after_name names.Ask second = query_line place second
@@ -117,38 +117,38 @@ usage_by name (first ∷ second ∷ others) =
     ++ (32 ∷ first ++ (codes " (or " ++ (second ++ (flat_map (λ form. codes ", or " ++ form) others ++ codes ")"))))
 usage_by name forms = []
 
--- how a line is written that ends in a query or a change
+-- the form of a line that ends in a query or a change
 abbrev pub usage_text : LineName → List ℕ
 usage_text names.Query = usage_by names.Query query_forms
 usage_text names.Ask = usage_by names.Ask query_forms
 usage_text names.Write = usage_by names.Write change_forms
 usage_text name = []
 
--- the second of the words, or no bytes where there are fewer
+-- the second of the words, or no bytes if there are fewer
 abbrev pub second_of : List (List ℕ) → List ℕ
 second_of (first ∷ second ∷ words) = second
 second_of words = []
 
--- ---- what is wrong
+-- ---- faults
 
--- what may be wrong with the words of a line
+-- the faults of the words of a line
 abbrev pub WordsFault : Type 0
 WordsFault = CommandFault OwnFault
 
--- why such a line was not answered, and how a run of such lines ends
+-- the cause for which such a line was not answered, and the end of a run of such lines
 abbrev pub WordsUnanswered : Type 0
 WordsUnanswered = Unanswered OwnFault
 
 abbrev pub WordsStatus : Type 0
 WordsStatus = Status OwnFault
 
--- What is wrong where the second word names no query and no change: the words end before it; else it names none, or the
--- one before it is not of its kind.
+-- The fault of words whose second names no query and no change: the words end before it; else it names none, or
+-- the word before it is not of its kind.
 abbrev pub IsUnkindFault : LineName → List (List ℕ) → WordsFault → Type 0
 IsUnkindFault name words (Own (Usage form)) = (form.now ≡ usage_text name) × (length words < 2)
 IsUnkindFault name words fault = (2 ≤ length words) × IsKindsFault (first_kinds name) (take 2 words) fault
 
--- what is wrong with the words after a line's name
+-- the fault of the words after a line's name
 abbrev pub IsFaultAfter : LineName → List (List ℕ) → WordsFault → Type 0
 IsFaultAfter name words fault =
     MatchOption (kinds_after_name name (second_of words)) (IsUnkindFault name words fault)

@@ -1,4 +1,4 @@
--- What the words after the names of lines say, and the queries and changes that they make.
+-- The values of the words after the names of lines, and the queries and changes that they make.
 use Rattle.std.specs.Prelude.{◌≡◌, ℕ, List, [], ◌∷◌, Option, Some, None, option_map}
 use Rattle.txc_rows.specs.Values.{RowValue}
 use Rattle.txc_rows.specs.declared.query.Change.{Change}
@@ -17,25 +17,25 @@ use Rattle.txc_script.specs.declared.said.Said.TheVariants.{Id, Query, Table, Te
 use Rattle.txc_words.specs.Faults.{kinds_after_name, second_of}
 use Rattle.txc_words.specs.declared.name.LineName.{LineName}
 
--- the words after a line's name are of the kinds that it wants, and say this
+-- the words after a line's name are of the required kinds, and have these values
 pub record SaysAfter (name : LineName) (words : List (List ℕ)) (values : List Said) : Type 0 where
   pub kinds : List WordKind
   pub known : kinds_after_name name (second_of words) ≡ Some kinds
   pub say : SayAll kinds words values
 
--- the row that words say: its table, its id, its group and its body
+-- the row of these values: its table, its id, its group and its body
 abbrev pub row_said : List Said → Option RowValue
 row_said (Table table ∷ Id id ∷ Id group ∷ Text body ∷ []) =
     Some (record { table = table; id = id; group = group; body = body })
 row_said values = None
 
--- the change of this name that words say
+-- the change of this name, of these values
 abbrev pub change_said : ChangeName → List Said → Option Change
 change_said Put values = option_map changes.Put (row_said values)
 change_said Remove (Table table ∷ Id id ∷ []) = Some (changes.Remove table id)
 change_said Remove values = None
 
--- the query that words say, its name and what is asked
+-- the query of these values: its name, and its arguments
 abbrev pub query_said : List Said → Option made.Query
 query_said (Query ById ∷ Table table ∷ Id id ∷ []) = Some (queries.ById table id)
 query_said (Query ByGroup ∷ Table table ∷ Id group ∷ []) = Some (queries.ByGroup table group)

@@ -1,19 +1,19 @@
-//! What is wrong with lines of a world's and of a batch's script alone.
+//! Faults that only lines of a world's and of a batch's script can have.
 use std::fmt;
 
-/// What is wrong with the words of a line, beside what may be wrong with those of any script.
+/// Fault of the words of a line, in addition to those of any script.
 #[derive(Clone, Copy, Debug)]
 pub enum OwnFault {
-    /// It ends before a word that says what the others are to be: how such a line is written.
+    /// The line ends before the word that determines the kinds of the others: the form of such a line.
     Usage(&'static str),
     /// Too few words are after the command.
     Few {
-        /// How many there are to be at least.
+        /// The least number that it needs.
         least: usize,
-        /// How many there are.
+        /// The number in the line.
         given: usize,
     },
-    /// It may not stand where it does: where such a line stands.
+    /// The line is at a wrong place: where such a line belongs.
     Misplaced(&'static str),
 }
 

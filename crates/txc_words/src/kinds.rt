@@ -12,7 +12,7 @@ use txc_tags::LAST_NUMBER;
 /// The number of an actor or a node.
 const PLACE: WordKind = WordKind::Number(LAST_NUMBER);
 
-/// A moment, or a time.
+/// A wall-clock time, or a duration.
 const MOMENT: WordKind = WordKind::Number(LAST_MOMENT);
 
 const BODY: WordKind = WordKind::Text(MAX_BODY_LEN);
@@ -85,7 +85,7 @@ static COUNTS: [WordKind; 2] = [PLACE, WordKind::Function];
 
 static NOTHING: [WordKind; 0] = [];
 
-/// The kinds of the words of `query`, of which the second has that name.
+/// Returns the kinds of the words of `query`, whose second word has that name.
 fn query_kinds(name: &[u8]) -> Option<&'static [WordKind]>
     ensures answer { IfSome result (λ kinds. query_line WordKind.Stamp name.now ≡ Some kinds.now) }
     ensures refused { IfNone result (query_line WordKind.Stamp name.now ≡ None) }
@@ -98,7 +98,7 @@ fn query_kinds(name: &[u8]) -> Option<&'static [WordKind]>
     }
 }
 
-/// The kinds of the words of `ask`, of which the second has that name.
+/// Returns the kinds of the words of `ask`, whose second word has that name.
 fn ask_kinds(name: &[u8]) -> Option<&'static [WordKind]>
     ensures answer { IfSome result (λ kinds. query_line place name.now ≡ Some kinds.now) }
     ensures refused { IfNone result (query_line place name.now ≡ None) }
@@ -111,7 +111,7 @@ fn ask_kinds(name: &[u8]) -> Option<&'static [WordKind]>
     }
 }
 
-/// The kinds of the words of `write`, of which the second has that name.
+/// Returns the kinds of the words of `write`, whose second word has that name.
 fn write_kinds(name: &[u8]) -> Option<&'static [WordKind]>
     ensures answer { IfSome result (λ kinds. change_line name.now ≡ Some kinds.now) }
     ensures refused { IfNone result (change_line name.now ≡ None) }
@@ -123,7 +123,7 @@ fn write_kinds(name: &[u8]) -> Option<&'static [WordKind]>
     }
 }
 
-/// The kinds of the words after a line's name, of which the second may name a query or a change.
+/// Returns the kinds of the words after a line's name. The second of them may name a query or a change.
 pub fn kinds_after_name(name: LineName, second: &[u8]) -> Option<&'static [WordKind]>
     ensures answer { IfSome result (λ kinds. kinds_after_name name second.now ≡ Some kinds.now) }
     ensures refused { IfNone result (kinds_after_name name second.now ≡ None) }
@@ -145,7 +145,7 @@ pub fn kinds_after_name(name: LineName, second: &[u8]) -> Option<&'static [WordK
     }
 }
 
-/// The kinds of the first two words after a line's name, where the second names a query or a change.
+/// Returns the kinds of the first two words after a line's name, if the second names a query or a change.
 pub fn first_kinds(name: LineName) -> &'static [WordKind]
     ensures { result.now ≡ first_kinds name }
 {
@@ -157,7 +157,7 @@ pub fn first_kinds(name: LineName) -> &'static [WordKind]
     }
 }
 
-/// How a line of the name is written, where the second word after it names a query or a change.
+/// Returns the form of a line of the name, if the second word after it names a query or a change.
 pub fn usage_of(name: LineName) -> &'static str
     ensures { result.now ≡ usage_text name }
 {

@@ -1,5 +1,5 @@
-//! What lines of a world's script and of a batch's have in common: their names, their parts, and what is wrong
-//! with their words.
+//! The common parts of the lines of a world's script and of a batch's: their names, their words, and the faults
+//! of these.
 #![tactic(auto)]
 
 mod fault;

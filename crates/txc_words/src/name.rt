@@ -27,7 +27,7 @@ pub enum LineName {
     Counts,
 }
 
-/// The name that the word is.
+/// Returns the line name that the word is, if it is one.
 pub fn name_of(word: &[u8]) -> Option<LineName>
     ensures answer { IfSome result (λ name. word.now ≡ name_text name) }
     ensures refused { IfNone result ((name : LineName) → word.now ≡ name_text name → ⊥) }

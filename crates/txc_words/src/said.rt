@@ -1,4 +1,4 @@
-//! What the words after the names of lines say, and the queries and changes that they make.
+//! The meanings of the words after the names of lines, and the queries and changes made of them.
 ghost use Rattle.std.specs.Prelude.{◌≡◌, None, IfOk, IfErr, length};
 ghost use Rattle.txc_script.specs.LineFaults.{IsWrong};
 ghost use Rattle.txc_script.specs.Words.{words_left};
@@ -12,10 +12,10 @@ use std::alloc::{AllocError, Global};
 use txc_rows::{Change, Query, Row};
 use txc_script::{ChangeName, CommandFault, QueryName, Said, Unanswered, WordsLeft, read_words};
 
-/// The greatest moment and the longest time, in milliseconds.
+/// The greatest wall-clock time and the longest duration, in milliseconds.
 pub const LAST_MOMENT: u64 = u64::MAX;
 
-/// The second of the words, of which there are so many; no bytes where there is none.
+/// Returns the second of the words, or no bytes if there is none.
 fn second_of(words: WordsLeft<'_>, count: usize) -> &[u8]
     requires { length (words_left words) ≡ count }
     ensures { result.now ≡ second_of (words_left words.entry) }
@@ -28,7 +28,7 @@ fn second_of(words: WordsLeft<'_>, count: usize) -> &[u8]
     left.next()
 }
 
-/// What is wrong with the words after the name of a line, where they do not say of which kinds they are to be.
+/// Returns the fault of the words after the name of a line, if they do not determine their kinds.
 fn find_without_kinds(
     alloc: Global,
     name: LineName,
@@ -48,7 +48,7 @@ fn find_without_kinds(
     }
 }
 
-/// What the words after the name of a line say, of which there are so many; or what is wrong with them.
+/// Returns the meanings of the words after the name of a line, or their fault.
 pub fn read_after_name<'a>(
     alloc: Global,
     name: LineName,
@@ -65,7 +65,7 @@ pub fn read_after_name<'a>(
     }
 }
 
-/// The row that words say.
+/// Returns the row that the words mean.
 fn row_of(alloc: Global, said: &[Said<'_>]) -> Result<Option<Row>, AllocError>
     requires { AreBodies said.now }
     ensures { IfOk result (λ row. row ≡ row_said said.now) }
@@ -85,7 +85,7 @@ fn row_of(alloc: Global, said: &[Said<'_>]) -> Result<Option<Row>, AllocError>
     }
 }
 
-/// The removal that words say.
+/// Returns the removal that the words mean.
 fn removal_of(said: &[Said<'_>]) -> Option<Change>
     ensures { result ≡ change_said ChangeName.Remove said.now }
 {
@@ -98,7 +98,7 @@ fn removal_of(said: &[Said<'_>]) -> Option<Change>
     }
 }
 
-/// The change of this name that words say.
+/// Returns the change of this name that the words mean.
 pub fn change_of(
     alloc: Global,
     name: ChangeName,
@@ -116,7 +116,7 @@ pub fn change_of(
     }
 }
 
-/// The query that words say.
+/// Returns the query that the words mean.
 pub fn query_of(said: &[Said<'_>]) -> Option<Query>
     ensures { result ≡ query_said said.now }
 {

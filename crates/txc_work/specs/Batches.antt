@@ -1,4 +1,4 @@
--- What a batch of jobs gives.
+-- The results of a batch of jobs.
 use Rattle.txc_stream.specs.Names.{Name}
 use Rattle.std.specs.Prelude.{◌≡◌, ℕ, ◌≤◌, ◌==◌, ◌⊎◌, nat_le, List, ◌∷◌, ◌++◌, map, count_by, Contains, Err}
 use Rattle.std.specs.List.{filter}
@@ -21,7 +21,7 @@ use Rattle.txc_work.specs.declared.job.Outcome.{Outcome}
 use Rattle.txc_work.specs.declared.job.Outcome.TheVariants as outcomes
 use Rattle.txc_work.specs.declared.job.Receipted.{Receipted}
 
--- ---- what an outcome says of its job
+-- ---- the relation of an outcome to its job
 
 -- the keys of the answers, in order
 abbrev pub keys_of : List Recorded → List Call
@@ -33,8 +33,8 @@ pub record IsReceiptOfJob (next : Next) (row : Name) (job : Job) (receipt : Rece
   pub explained : Explains next receipt.seen.history job.bounds receipt.pin receipt.answers.items
   pub events : receipt.seen.events ≡ row
 
--- In a transaction with these bounds, whose pin set means what it says and whose objects are those of these
--- functions, all idle, the keys before this one were answered. The call of this one ended in the refusal.
+-- In a transaction with these bounds, whose pin set is correct and whose objects are those of these functions,
+-- all idle, the keys before this one were completed. The call of this one ended with the error.
 pub record IsRefusedAt (next : Next) (row : Name) (node_histories : ℕ → Name) (functions : List ℕ)
     (bounds : Bounds) (keys : List Call) (error : TxnError) : Type 0 where
   pub before : List Call
@@ -50,8 +50,8 @@ pub record IsRefusedAt (next : Next) (row : Name) (node_histories : ℕ → Name
   pub answered : keys_of old.txn.core.recorded ≡ before
   pub run : HasRun next row node_histories old key new (Err error)
 
--- A receipt is the job's. A refusal is out of memory, or that of the first of the job's calls that was
--- refused, in a transaction of these functions.
+-- A receipt is the job's. An error is a failed allocation, or that of the first of the job's calls that failed,
+-- in a transaction of these functions.
 abbrev pub Meets : Next → Name → (ℕ → Name) → List ℕ → Job → Outcome → Type 0
 Meets next row node_histories functions job (outcomes.Receipt receipt) = IsReceiptOfJob next row job receipt
 Meets next row node_histories functions job (outcomes.Refused error) =
@@ -70,15 +70,15 @@ job_numbers jobs = map (λ (job : Job). job.number) jobs
 abbrev pub result_numbers : List Receipted → List ℕ
 result_numbers results = map (λ (told : Receipted). told.number) results
 
--- the number stands at two places at least
+-- the number is at two places at least
 abbrev pub StandsTwice : List ℕ → ℕ → Type 0
 StandsTwice numbers n = 2 ≤ count_by (λ m. m == n) numbers
 
--- those of the numbers that stand twice
+-- the numbers that occur twice
 abbrev pub twice_in : List ℕ → List ℕ
 twice_in numbers = filter (λ n. nat_le 2 (count_by (λ m. m == n) numbers)) numbers
 
--- the least of the numbers that stand twice
+-- the least of the numbers that occur twice
 pub record IsLeastTwice (numbers : List ℕ) (n : ℕ) : Type 0 where
   pub twice : StandsTwice numbers n
   pub least : (m : ℕ) → StandsTwice numbers m → n ≤ m

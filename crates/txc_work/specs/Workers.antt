@@ -1,4 +1,4 @@
--- What ties workers to the queues that they share.
+-- The relation of workers to the queues that they share.
 use Rattle.std.specs.Prelude.{◌≡◌, ℕ, List, Option}
 use Rattle.crossbeam_queue.specs.Passes.{IsPassOf}
 use Rattle.crossbeam_queue.specs.declared.array_queue.Doing.{Doing}
@@ -16,6 +16,6 @@ abbrev pub IsWorkerOf : {P Q A : Type 0} → Slotted (Option Job) (Doing Job (Un
 IsWorkerOf jobs results functions w =
     IsPassOf jobs w.jobs × IsPassOf results w.results × (numbers_of w.client.objects ≡ functions)
 
--- what the one says of an outcome the other says too
+-- the one relation of outcomes implies the other
 abbrev pub Implies : (Job → Outcome → Type 0) → (Job → Outcome → Type 0) → Type 0
 Implies says also = (job : Job) (outcome : Outcome) → says job outcome → also job outcome

@@ -28,10 +28,10 @@ pub const MAX_CLIENTS: usize = 8;
 
 /// Runs each job once, by one of the clients, and returns the results in the order of the jobs' numbers.
 ///
-/// Each client has a thread, the last one the caller's, and goes on to the next job however the one before
-/// ended. Where no thread can be made for a client, the others run its jobs. Jobs are begun in the order in
-/// which they are given, each between two calls of the gate. Where two have one number, and where memory for
-/// the batch itself is refused, no job is run and the gate is not called.
+/// Each client has a thread, the last one the caller's, and continues with the next job however the one before
+/// ended. If no thread can be made for a client, the others run its jobs. Jobs begin in the order in which they
+/// are in `jobs`, each between two calls of the gate. If two jobs have one number, or memory for the batch
+/// itself cannot be allocated, it fails, runs no job and does not call the gate.
 pub fn run_batch<A, C, J, G, R>(
     rt: &R,
     alloc: Global,
@@ -69,7 +69,7 @@ where
     in_order(results, &numbers)
 }
 
-// Runs the jobs, of which there are some, and returns their results in the order in which they ended.
+// Runs the jobs, at least one, and returns their results in the order in which they ended.
 fn run_all<B, A, C, J, G, R>(
     rt: &R,
     alloc: Global,
@@ -110,7 +110,7 @@ where
     Ok(results)
 }
 
-// Runs each worker on a thread of its own, the last on this one, until all jobs were taken.
+// Runs each worker on a thread of its own, the last one on this thread, until all jobs were taken.
 fn run_workers<B, A, C, J, G, R>(
     rt: &R,
     alloc: Global,
@@ -156,7 +156,7 @@ where
     );
 }
 
-// Takes the results that are there, as many as there is room for.
+// Takes the present results, as far as there is room.
 fn take_results<B: Batch, R: Wait>(
     rt: &R,
     queue: &ResultQueue<B>,

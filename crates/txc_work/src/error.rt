@@ -1,6 +1,6 @@
 use thiserror::Error;
 
-/// Why a batch has no results.
+/// Errors of a batch.
 #[derive(Clone, Copy, Debug, PartialEq, Eq, Error)]
 pub enum BatchError {
     /// The job of this number has no result.
@@ -9,7 +9,7 @@ pub enum BatchError {
     /// Two jobs have this number, or two results.
     #[error("there is more than one job {0}")]
     Twice(u32),
-    /// A growth was refused, before any job was run.
+    /// Memory cannot be allocated; no job was run.
     #[error("out of memory")]
     Memory,
 }

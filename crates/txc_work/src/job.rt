@@ -2,8 +2,8 @@ use txc_ports::{Bounds, TxnError};
 use txc_tags::Key;
 use txc_txn::Receipt;
 
-/// A read-only transaction to be run: its number in its batch, how fresh its snapshot is to be, and what it
-/// calls, in order.
+/// A read-only transaction to run: its number in its batch, the bounds of its snapshot, and its calls, in
+/// order.
 #[derive(Debug, Drop)]
 pub struct Job {
     pub number: u32,
@@ -11,13 +11,12 @@ pub struct Job {
     pub keys: Vec<Key>,
 }
 
-/// How a job ended.
+/// Outcome of a job.
 #[derive(Drop)]
 pub enum Outcome {
-    /// Each of its calls was answered.
+    /// All of its calls were completed.
     Receipt(Receipt),
-    /// It was out of memory as it began, or this is the first of its calls that was refused. The transaction
-    /// was given up.
+    /// It had no memory to begin, or this is the error of its first failed call. The transaction was aborted.
     Refused(TxnError),
 }
 

@@ -1,8 +1,8 @@
 //! Batches of jobs: read-only transactions that clients run on threads of their own.
 //!
-//! The jobs of a batch go through one queue, from which each worker takes the next one when it is done with
-//! the one before, and their results through another. Nothing else is shared by the workers but what their
-//! clients share, and the gate.
+//! The jobs of a batch go through one queue, from which each worker takes the next one after it is done with
+//! the one before, and their results go through another. Workers share nothing else but the gate and whatever
+//! their clients share.
 #![tactic(auto)]
 
 mod batch;

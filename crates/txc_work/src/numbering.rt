@@ -9,7 +9,8 @@ use crate::error::BatchError;
 use crate::job::{Job, Receipted};
 use std::alloc::{AllocError, Global};
 
-/// The numbers of the jobs, in ascending order. That two jobs have one number is reported out of memory too.
+/// Returns the numbers of the jobs, in ascending order. Fails if two jobs have one number, which it reports
+/// even if memory cannot be allocated.
 pub(crate) fn distinct_numbers(alloc: Global, jobs: &[Job]) -> Result<Vec<u32>, BatchError>
     ensures same { IfOk result (λ numbers. IsPermutation (job_numbers jobs.now) numbers.items) }
     ensures rising { IfOk result (λ numbers. IsStrictlyIncreasing numbers.items) }
@@ -38,7 +39,7 @@ fn sorted_numbers(alloc: Global, jobs: &[Job]) -> Result<Vec<u32>, AllocError>
     Ok(numbers)
 }
 
-// The least number that stands twice. The numbers are in ascending order.
+// Returns the least number that occurs twice. The numbers are in ascending order.
 fn first_twice(numbers: &[u32]) -> Option<u32>
     requires { IsSorted nat_cmp numbers.now }
     ensures none { IfNone result (IsStrictlyIncreasing numbers.now) }
@@ -53,7 +54,7 @@ fn first_twice(numbers: &[u32]) -> Option<u32>
     None
 }
 
-// The least number that two of the jobs have. They are compared pair by pair, which takes no memory.
+// Returns the least number that two of the jobs have. It compares them pair by pair, and does not allocate.
 fn least_twice(jobs: &[Job]) -> Option<u32>
     ensures { result ≡ reduce min (twice_in (job_numbers jobs.now)) }
 {
@@ -63,14 +64,14 @@ fn least_twice(jobs: &[Job]) -> Option<u32>
         .min()
 }
 
-// How many of the jobs have the number.
+// Returns how many of the jobs have the number.
 fn count_of(jobs: &[Job], number: u32) -> usize
     ensures { result ≡ count_by (λ n. n == number) (job_numbers jobs.now) }
 {
     jobs.iter().filter(|job| job.number == number).count()
 }
 
-/// The results in the order of the numbers, where each number has one.
+/// Returns the results in the order of the numbers. Fails if a number has no result, or two.
 pub(crate) fn in_order(
     mut results: Vec<Receipted>,
     numbers: &[u32],
@@ -87,7 +88,7 @@ pub(crate) fn in_order(
     }
 }
 
-// The first number, in ascending order, that has no result or two.
+// Returns the first number, in ascending order, that has no result or two.
 fn find_fault(results: &[Receipted], numbers: &[u32]) -> Option<BatchError>
     requires { All (λ told. Contains numbers.now told.number) results.now }
     ensures none { IfNone result (result_numbers results.now ≡ numbers.now) }

@@ -1,4 +1,4 @@
-//! The queues of a batch, and what each item of them is.
+//! The queues of a batch, and the rule for the items of each.
 ghost use Rattle.std.specs.Prelude.{ℕ, All, Contains, IfSome, List};
 ghost use Rattle.crossbeam_queue.specs.Passes.{IsPassOf, IsSamePass};
 ghost use Rattle.txc_work.specs.Batches.{IsResultOf};
@@ -11,8 +11,8 @@ use crossbeam_queue::{Pass, RuledArrayQueue};
 use std::marker::{Brand, PhantomData};
 use std::sync::Wait;
 
-/// Names the jobs of a batch, the functions of its clients, and what an outcome says of its job. What is
-/// generic in it is called at [`Brand`] once the jobs are there.
+/// Names the jobs of a batch, the functions of its clients, and the relation of an outcome to its job. Generic
+/// code in it is called at [`Brand`] once the jobs exist.
 pub(crate) trait Batch {
     ghost jobs: { List Job };
 
@@ -67,7 +67,7 @@ impl Split<()> for Twins {
     ghost right = { λ view. tt };
 }
 
-/// What a push tells: nothing.
+/// The knowledge after a push: none.
 struct Put;
 
 impl<T> protocol::Outcome<T, ()> for Put {
@@ -82,7 +82,7 @@ impl<T> Lesson<T, ()> for Put {
     ghost fact = { λ view items. ⊤ };
 }
 
-/// What a pop tells: its item is what the rule says of each.
+/// The knowledge after a pop: the rule holds for its item.
 struct Taken<B> {
     of: PhantomData<B>,
 }
@@ -115,7 +115,7 @@ pub(crate) type JobQueue<B> = RuledArrayQueue<Job, (), JobRule<B>>;
 
 pub(crate) type ResultQueue<B> = RuledArrayQueue<Receipted, (), ResultRule<B>>;
 
-// Puts a job of the batch into the queue, where there is room.
+// Puts a job of the batch into the queue, if there is room.
 fn put_job<B: Batch, R: Wait>(rt: &R, queue: &JobQueue<B>, pass: &mut Pass<Job, ()>, job: Job)
     requires queue { IsPassOf queue.now pass.old }
     requires of_batch { Contains B.jobs job }
@@ -139,7 +139,7 @@ pub(crate) fn put_jobs<B: Batch, R: Wait>(
     }
 }
 
-/// The next job of the batch; none where all were taken.
+/// Returns the next job of the batch, or `None` if all were taken.
 pub(crate) fn next_job<B: Batch, R: Wait>(
     rt: &R,
     queue: &JobQueue<B>,
@@ -152,7 +152,7 @@ pub(crate) fn next_job<B: Batch, R: Wait>(
     queue.pop_as::<Taken<B>, R>(rt, pass)
 }
 
-/// Puts the result of a job of the batch into the queue, where there is room.
+/// Puts the result of a job of the batch into the queue, if there is room.
 pub(crate) fn put_result<B: Batch, R: Wait>(
     rt: &R,
     queue: &ResultQueue<B>,
@@ -166,7 +166,7 @@ pub(crate) fn put_result<B: Batch, R: Wait>(
     let _ = queue.push_as::<Put, R>(rt, pass, told);
 }
 
-/// The next result of a job of the batch, if there is one.
+/// Returns the next result of a job of the batch, if there is one.
 pub(crate) fn next_result<B: Batch, R: Wait>(
     rt: &R,
     queue: &ResultQueue<B>,

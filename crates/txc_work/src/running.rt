@@ -60,7 +60,7 @@ fn transact<'a, A: App, C: Cacheable, J: Naming>(
     }
 }
 
-// Calls the keys in order, up to the first that is refused.
+// Makes the calls in order, up to the first that fails.
 fn call_each<A: App, C: Cacheable, J: Naming>(
     rt: &impl Wait,
     alloc: Global,

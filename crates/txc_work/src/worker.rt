@@ -25,7 +25,7 @@ pub(crate) struct Worker<K> {
     results: Pass<Receipted, ()>,
 }
 
-/// The passes by which jobs are put into their queue and results taken out of theirs, and the workers.
+/// The passes that put jobs into their queue and take results out of theirs, and the workers.
 pub(crate) type Equipped<K> = (Pass<Job, ()>, Pass<Receipted, ()>, Vec<Worker<K>>);
 
 /// Gives each client passes of both queues, split off from these.

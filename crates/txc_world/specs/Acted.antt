@@ -1,4 +1,4 @@
--- What every step of an actor does, whatever it has open.
+-- The effect of every step of an actor, whatever it has open.
 use Rattle.std.specs.Prelude.{◌≡◌, ℕ, List, Option, Some, length, slice_get, slice_set}
 use Rattle.txc_app.specs.Eval.{Next}
 use Rattle.txc_world.specs.declared.actor.Actor.{Actor}
@@ -11,9 +11,9 @@ use Rattle.txc_world.specs.ActorValues.{actor_value}
 use Rattle.txc_world.specs.Ports.{PortsValue, whole_of, KeepsRow}
 use Rattle.txc_world.specs.Observation.{act_in, observed_after, IsActDue, ReplyExplains}
 
--- The actor keeps what is true of actors, and has open what is shown of the step; the history is what is shown of
--- it. The reply is the one that is due, and explains what was shown of the actor. The ports keep their row, and the
--- keeper its pins. And nobody else has less after it.
+-- The actor keeps the invariant of actors, and its open transaction and the history are those that the step
+-- reports. The reply is the one that is due, and explains the actor's earlier results. The ports keep their
+-- history, and the keeper its pins. And no other actor has less after it.
 pub record IsActed {A C : Type 0} (next : Next) (act : Act) (old new : PortsValue) (before after : Actor A C)
     (reply : Reply) : Type 0 where
   pub fits : IsActor next (whole_of new) (length new.nodes) after
@@ -25,7 +25,7 @@ pub record IsActed {A C : Type 0} (next : Next) (act : Act) (old new : PortsValu
   pub spare : new.spare ≡ old.spare
   pub counts : ActCounts old new (account_of before) (account_of after) reply
 
--- An actor stands there before and after the step, as every step of an actor has it.
+-- There is an actor before and after the step, as for every step of an actor.
 pub record ActsThere {A C : Type 0} (next : Next) (renew_after pass : ℕ) (act : Act) (old new : PortsValue)
     (slot after : Option (Actor A C)) (reply : Reply) : Type 0 where
   pub was : Actor A C

@@ -1,4 +1,4 @@
--- What callers see of an actor.
+-- The value of an actor in contracts.
 use Rattle.std.specs.Prelude.{ℕ, List, [], Option, None, Some}
 use Rattle.std.specs.Option.{option_map}
 use Rattle.txc_tags.specs.Keys.{Call}
@@ -30,8 +30,8 @@ pub record WritingValue : Type 0 where
   pub objects : Objects
   pub call : Option (CallValue Query)
 
--- an actor has nothing open; or a read-only or a read-write transaction; or that has ended, and it has the hold
--- of a stamp still to take away
+-- an actor is idle; or has a read-only or a read-write transaction open; or that has ended, and the hold of a
+-- stamp must still be removed
 pub data ActorValue : Type 0 where
   resting : Objects → ActorValue
   reads : ReadingValue → ActorValue
@@ -42,7 +42,7 @@ pub data ActorValue : Type 0 where
 abbrev pub call_at_turn : {R : Type 0} → Call → Turn R (List ℕ) → CallValue R
 call_at_turn key turn = record { key = key; turn = turn }
 
--- ---- what they are made from
+-- ---- the state that they are made from
 
 -- the same as it is kept
 abbrev pub opened : {R : Type 0} → Call → Turn R (List ℕ) → OpenCall R

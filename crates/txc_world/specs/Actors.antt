@@ -1,4 +1,4 @@
--- What actors keep, and how they are shown.
+-- Invariants of actors, and the reports of them.
 use Rattle.std.specs.Prelude.{◌≡◌, ℕ, ◌-◌, Bool, List, Option, Some, None, Result, Ok, Err, length, take, option_map, if◌then◌else◌}
 use Rattle.std.specs.Prelude.{Vec}
 use Rattle.std.specs.List.{list_any}
@@ -50,16 +50,16 @@ use Rattle.txc_world.specs.Keeping.{GiveBackTransition}
 use Rattle.txc_world.specs.Losing.{IfLost, IfTurnLost}
 use Rattle.txc_world.specs.Observation.{ObservedActor, idle, reading, writing, leaving}
 
--- a pin that is to be added is of the whole
+-- a pin to be added is of the whole history
 abbrev pub AddsPart : FrontValue → PortTurn → Type 0
 AddsPart whole turn = TurnAddsSuch (IsPartOf whole) turn
 
--- the reason that waits for the hold of a pin to be taken away is of no snapshot that is gone
+-- the error that waits for the hold of a pin to be removed is not about a lost snapshot
 abbrev pub DropsNone : CoreValue → Type 0
 DropsNone c = (stamp : ℕ) (error : TxnError) → IsPinningAt c (Dropping stamp error) → IfLost error ⊥
 
--- the call's next turn is one of the core's, which has it open under its key while it asks; it is no value,
--- asks to add only what the whole shows, and has lost no snapshot
+-- the call's next turn is one of the core's, which has it open under its key while it makes requests; it has no
+-- value, requests only additions that the whole history shows, and has lost no snapshot
 pub record IsOpenCall (whole : FrontValue) (c : CoreValue) (call : OpenCall PortRequest) : Type 0 where
   pub turn : IsTurn c call.turn
   pub no_value : IsNoValue call.turn
@@ -72,8 +72,8 @@ abbrev pub HasCall : FrontValue → CoreValue → Option (OpenCall PortRequest) 
 HasCall whole c None = IsIdle c
 HasCall whole c (Some call) = IsOpenCall whole c call
 
--- What is true of an open transaction over so many nodes, beside what its type keeps: what it has seen is
--- part of the whole, and its open call waits for its next turn.
+-- Invariant of an open transaction over `count` nodes, in addition to that of its type: the history that it has
+-- seen is a prefix of the whole, and its open call waits for its next turn.
 pub record IsOpenTxn {A C : Type 0} (whole : FrontValue) (count : ℕ) (o : OpenTxn A C) : Type 0 where
   pub seen : IsPartOf whole o.txn.core.seen
   pub nodes : o.txn.core.nodes ≡ count
@@ -81,8 +81,7 @@ pub record IsOpenTxn {A C : Type 0} (whole : FrontValue) (count : ℕ) (o : Open
 
 -- ---- read-write transactions
 
--- the answers without the last one, where that is the value of a call that has ended and was not shown so
--- yet
+-- the results without the last one, if that is the value of a call that has ended and was not reported yet
 abbrev pub told_by_turn : QueryTurn → List Given → List Given
 told_by_turn (turns.Ended (Ok value)) answers = take (length answers - 1) answers
 told_by_turn turn answers = answers
@@ -103,7 +102,7 @@ abbrev pub HasRwCall : RwValue → Option (OpenCall Query) → Type 0
 HasRwCall c None = IsRwIdle c
 HasRwCall c (Some call) = IsRwCall c call
 
--- What is true of an open read-write transaction: its core is right in the whole history, and its open call
+-- Invariant of an open read-write transaction: its core is correct in the whole history, and its open call
 -- waits for its next turn.
 pub record IsOpenRw {A C : Type 0} (next : Next) (L : History) (o : OpenRw A C) : Type 0 where
   pub fits : IsRw next o.registry o.core
@@ -118,14 +117,14 @@ IsActor next whole count (Reading o) = IsOpenTxn whole count o
 IsActor next whole count (Writing o) = IsOpenRw next whole.history o
 IsActor next whole count (Leaving objects stamp) = AllIdle objects
 
--- nobody is in the middle of a step
+-- no actor is in the middle of a step
 abbrev pub IsActorThere : {A C : Type 0} → Next → FrontValue → ℕ → Option (Actor A C) → Type 0
 IsActorThere next whole count None = ⊥
 IsActorThere next whole count (Some actor) = IsActor next whole count actor
 
 -- ---- turns of a call
 
--- what is shown of a query of a read-write transaction's own
+-- the report of a query of a read-write transaction itself
 abbrev pub IsToldQuery : Result (Vec RowValue Global) TxnError → Reply → Type 0
 IsToldQuery (Ok rows) reply = reply ≡ replies.Answered rows
 IsToldQuery (Err error) reply = reply ≡ replies.Refused (Transaction error)
@@ -140,21 +139,21 @@ IsNoted opened (turns.Ended result) call end = (call ≡ None) × (end ≡ Some 
 abbrev pub holds_any : Interval → List Pin → Bool
 holds_any reach members = list_any (is_held_by reach) members
 
--- what a node did, but that a hit which holds no member is a miss
+-- the action of a node, with a hit in whose reach no member is as a miss
 abbrev pub counted : List Pin → Did → Did
 counted members (Hit reach) = if holds_any reach members then Hit reach else Miss
 counted members did = did
 
--- ---- what comes of a step
+-- ---- the effect of a step
 
--- a core began with the pins that the pincushion handed out for the bounds
+-- a core began with the pins that the pincushion issued for the bounds
 pub record CoreHasBegun (renew_after : ℕ) (bounds : Bounds) (old new : PortsValue) (c : CoreValue) : Type 0 where
   pub pins : Pins
   pub fresh : FreshTransition {A = Unit {0}} bounds.now bounds.staleness bounds.at_least old new (Ok pins)
   pub core : c ≡ begun_core (length old.nodes) renew_after bounds pins c.call
 
--- a transaction began, with no call and with the functions as they are; or the actor has nothing open, and all is
--- as it was
+-- a transaction began, with no call and with the functions as they are; or the actor has nothing open, and all
+-- is as it was
 abbrev pub TxnBeginTransition : ℕ → Bounds → PortsValue → PortsValue → Objects → ActorValue → Reply → Type 0
 TxnBeginTransition renew_after bounds old new objects (reads r) reply =
     CoreHasBegun renew_after bounds old new r.txn.core × (r.txn.objects ≡ objects) × (r.call ≡ None)
@@ -205,18 +204,18 @@ RequestTransition next pass key (turns.Ask request) old new before actor reply =
 RequestTransition next pass key (turns.Ended result) old new before actor reply = (new ≡ old)
     × (actor ≡ reads (record { txn = before; call = None })) × (reply ≡ Ended result)
 
--- given up: every function is there still and idle, and the hold of the stamp, if there is one, is left
+-- cancelled: every function still exists and is idle, and the hold of the stamp, if there is one, is left
 abbrev pub IsGivenUp : Option ℕ → Objects → ActorValue → Type 0
 IsGivenUp None objects (resting left) = AllIdle left × (numbers_of left ≡ numbers_of objects)
 IsGivenUp (Some stamp) objects (leaves left held) =
     AllIdle left × (numbers_of left ≡ numbers_of objects) × (held ≡ stamp)
 IsGivenUp held objects actor = ⊥
 
--- users of these stamps were given back to the pincushion, or it refused, and nothing has changed
+-- users of these stamps were removed at the pincushion, or it failed, and nothing has changed
 abbrev pub HasGivenBack : List ℕ → PortsValue → PortsValue → Type 0
 HasGivenBack stamps old new = (given : Result (Unit {0}) UnknownPin) × GiveBackTransition stamps old new given
 
--- ---- how it is shown
+-- ---- the observation of an actor
 
 abbrev pub observed_of : {A C : Type 0} → Actor A C → ObservedActor
 observed_of (Idle objects) = idle

@@ -1,4 +1,4 @@
--- What each step leaves of a world, beside what is shown of it.
+-- The world after each step, in addition to its reports.
 use Rattle.std.specs.Prelude.{◌≡◌, ℕ, List, [], ◌∷◌, Some, None, slice_get, slice_set, MatchOption}
 use Rattle.txc_app.specs.Eval.{Next}
 use Rattle.txc_registry.specs.Objects.{Objects}
@@ -33,8 +33,8 @@ RestingTransition renew_after (BeginRo bounds) old new objects actor reply =
 RestingTransition renew_after BeginRw old new objects actor reply = BeginRwTransition old new objects actor reply
 RestingTransition renew_after act old new objects actor reply = NothingDone old new (resting objects) actor
 
--- With a read-only transaction open it starts a call or ends the transaction, where no call is open; it
--- makes the request of the open call; it gives up, in the middle of a call too; or it does nothing.
+-- With a read-only transaction open it starts a call or ends the transaction, if no call is open; it makes the
+-- request of the open call; it aborts, also in the middle of a call; or it does nothing.
 abbrev pub ReadingTransition : Next → ℕ → Act → PortsValue → PortsValue → ReadingValue → ActorValue → Reply
     → Type 0
 ReadingTransition next pass (Start key) old new r actor reply = MatchOption r.call
@@ -52,8 +52,9 @@ ReadingTransition next pass Abort old new r actor reply = HasGivenBack r.txn.cor
     × (reply ≡ Aborted (left_pin r.txn.core.pinning))
 ReadingTransition next pass act old new r actor reply = NothingDone old new (reads r) actor
 
--- With a read-write transaction open it starts a call, asks, keeps a change or commits, where no call is
--- open. Or it makes the request of the open call; it gives up, in the middle of a call too; or it does nothing.
+-- With a read-write transaction open it starts a call, makes a query, buffers a change or commits, if no call
+-- is open. Or it makes the request of the open call; it aborts, also in the middle of a call; or it does
+-- nothing.
 abbrev pub WritingTransition : Next → Act → PortsValue → PortsValue → WritingValue → ActorValue → Reply → Type 0
 WritingTransition next (Start key) old new w actor reply = MatchOption w.call
     ((new ≡ old) × HasStartedRw next key w actor)
@@ -86,8 +87,7 @@ abbrev pub LeavingTransition : Act → PortsValue → PortsValue → Objects →
 LeavingTransition Request old new objects stamp actor reply = HasTakenAway old new objects stamp actor reply
 LeavingTransition act old new objects stamp actor reply = NothingDone old new (leaves objects stamp) actor
 
--- what a step of an actor, which has this pass through the nodes, leaves of the ports and of the actor, by
--- what it has open
+-- the ports and the actor after a step of an actor, which has this pass at the nodes, by its open transaction
 abbrev pub ActTransition : Next → ℕ → ℕ → Act → PortsValue → PortsValue → ActorValue → ActorValue → Reply → Type 0
 ActTransition next renew_after pass act old new (resting objects) actor reply =
     RestingTransition renew_after act old new objects actor reply
@@ -107,8 +107,8 @@ pub record HasActed (next : Next) (number : ℕ) (act : Act) (old new : WorldVal
   pub others : new.actors ≡ slice_set old.actors number actor
   pub leads : ActTransition next old.told.settings.renew_after number act old.ports new.ports before actor reply
 
--- A step of an actor leads that actor, in its session from the session's floor; where there is no such actor,
--- nothing changes. A step of the keeper leads the ports, and every actor stays as it is.
+-- A step of an actor leads that actor, in its session from the session's floor; if there is no such actor,
+-- nothing changes. A step of the keeper leads the ports, and every actor stays as before.
 abbrev pub StepTransition : Next → WorldValue → Step → Reply → WorldValue → Type 0
 StepTransition next old (Actor number act) reply new = MatchOption (slice_get old.actors number) (new ≡ old)
     (λ before. HasActed next number act old new reply before)
@@ -117,15 +117,16 @@ StepTransition next old (BeginIn number now staleness) reply new = MatchOption (
 StepTransition next old (Keeper keep) reply new = KeepTransition keep old.ports new.ports reply
     × (new.actors ≡ old.actors)
 
--- what a step leaves of a world, and what is shown of it; and it is a world that is true
+-- the world after a step, and its report; and it is a valid world
 pub record HasStepped (next : Next) (old : WorldValue) (step : Step) (reply : Reply) (new : WorldValue)
     : Type 0 where
   pub told : new.told ≡ after old.told step reply
   pub leads : StepTransition next old step reply new
   pub world : IsTrueWorld next new
 
--- A step was made: it leads so, is replied what is due, and explains what was shown before it. Where each had what is
--- its own and the step is tidy, each has so after it, and no snapshot is lost.
+-- A step was made: it leads so, has the due reply, and explains the earlier reports. If each actor and the
+-- keeper had exactly their own holds and users and the step is tidy, the same is true after it, and no snapshot
+-- is lost.
 pub record IsWholeStep (next : Next) (old : WorldValue) (step : Step) (reply : Reply) (new : WorldValue) : Type 0 where
   pub told : new.told ≡ after old.told step reply
   pub leads : StepTransition next old step reply new
@@ -135,7 +136,8 @@ pub record IsWholeStep (next : Next) (old : WorldValue) (step : Step) (reply : R
   pub balanced : (in_hand : InHand) → IsBalanced old in_hand → IsTidy step reply in_hand
       → IsBalanced new (in_hand_after step reply in_hand) × LosesNoSnapshot step reply
 
--- the steps lead from the one world to the other: each to a world that is true, from which the next one leads on
+-- the steps lead from the one world to the other: each to a world that is true, from which the next one leads
+-- on
 abbrev pub AreLed : Next → WorldValue → List Step → List Reply → WorldValue → Type 0
 AreLed next old [] replies new = new ≡ old
 AreLed next old (step ∷ steps) [] new = ⊥

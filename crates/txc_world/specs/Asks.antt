@@ -1,4 +1,4 @@
--- What comes of a transaction's request at the plain ports, and how it is shown.
+-- The effect of a transaction's request at the plain ports, and its report.
 use Rattle.std.specs.Prelude.{◌≡◌, ◌⊎◌, ℕ, ◌≤◌, Result, Ok, Err, Option, Some, None, [], ◌∷◌, map, true}
 use Rattle.std.specs.Option.{option_map, ForSome}
 use Rattle.txc_rows.specs.declared.query.Query.{Query}
@@ -48,32 +48,31 @@ pub record HasPinned (now at_least : ℕ) (old new : PortsValue) (pinned : Pinne
   pub front : pinned.front ≡ front_of new.database
   pub shown : moment_at pinned.front.history pinned.stamp ≡ Some pinned.moment
 
--- of a pin: it was made, or the database refused
+-- of a pin: it was made, or the database failed
 abbrev pub PinTransition : ℕ → ℕ → PortsValue → PortsValue → Result Pinned DbError → Type 0
 PinTransition now at_least old new (Ok pinned) = HasPinned now at_least old new pinned
 PinTransition now at_least old new (Err e) = HasRefused old new e × IsPinRefused old.database at_least e
 
--- of a pin that is added: it is in the pincushion, or was refused, and nothing has changed
+-- of adding a pin: it is in the pincushion, or was not added, and nothing has changed
 abbrev pub AddTransition : {A : Type 0} → Pinned → PortsValue → PortsValue → Result A AddError → Type 0
 AddTransition pinned old new (Ok added) = (new ≡ record old { cushion = after_add old.cushion pinned })
     × IsAddable old.cushion pinned.stamp
 AddTransition pinned old new (Err e) = (new ≡ old) × IsAddRefused old.cushion pinned.stamp e
 
--- of a hold: there is one fewer of the stamp, or the database refused, and nothing has changed
+-- of a hold: there is one fewer of the stamp, or the database failed, and nothing has changed
 abbrev pub UnpinTransition : {A : Type 0} → ℕ → PortsValue → PortsValue → Result A DbError → Type 0
 UnpinTransition stamp old new (Ok unpinned) = (new ≡ record old { database = after_unpin old.database stamp })
     × (is_held stamp old.database.holds ≡ true)
 UnpinTransition stamp old new (Err e) = (new ≡ old) × IsUnpinRefused old.database stamp e
 
--- of a beginning: the newest of the fresh pins are handed out, each with one user more; or nothing has
--- changed
+-- of a beginning: the newest of the fresh pins are issued, each with one more user; or nothing has changed
 abbrev pub FreshTransition : {A : Type 0} → ℕ → ℕ → ℕ → PortsValue → PortsValue → Result Pins A → Type 0
 FreshTransition now staleness at_least old new (Ok pins) =
     (new ≡ record old { cushion = after_fresh old.cushion now staleness at_least })
     × (pins.pins.items ≡ handed_out old.cushion now staleness at_least)
 FreshTransition now staleness at_least old new (Err e) = new ≡ old
 
--- of a beginning: the newest stamp has one hold more; or the database refused, and nothing has changed
+-- of a beginning: the newest stamp has one hold more; or the database failed, and nothing has changed
 abbrev pub HoldTransition : PortsValue → PortsValue → Result ℕ DbError → Type 0
 HoldTransition old new (Ok base) = (new ≡ record old { database = after_hold old.database })
     × (base ≡ newest old.database) × IsHoldable old.database
@@ -102,26 +101,26 @@ abbrev pub FindTransition : Query → ℕ → PortsValue → Result (Answered Fo
 FindTransition query stamp p (Ok found) = IsAnswerWithFront query stamp p found × IsAnswerable p.database stamp
 FindTransition query stamp p (Err e) = IsQueryRefused p.database query stamp e
 
--- what is shown of the rows found: their ids, in order, with their reach and tags
+-- the report of the found rows: their ids, in order, with their reach and tags
 pub record IsToldOf (found : Found) (rows : RowsFound) : Type 0 where
   pub ids : rows.ids.items ≡ map (λ r. r.id) found.rows.items
   pub reach : rows.reach ≡ found.reach
   pub tags : rows.tags ≡ found.tags
 
--- what was found, or refused, as it is shown
+-- the report of an answer, or of an error
 abbrev pub DoesTellFound : Result Found DbError → Did → Type 0
 DoesTellFound (Ok found) did = (rows : RowsFound) × (did ≡ dids.Rows rows) × IsToldOf found rows
 DoesTellFound (Err e) did = did ≡ dids.Refused e
 
 -- ---- requests
 
--- what a node keeps that made the insertion; nothing where it refused
+-- the result of a node's insertion; none if it failed
 abbrev pub kept_after : Option Insertion → Option Kept
 kept_after (Some (insertions.Stored reach)) = Some (kepts.Stored reach)
 kept_after (Some insertions.Kept) = Some kepts.Earlier
 kept_after None = None
 
--- what is shown of a port is its reply to the transaction; of rows found, their ids with their reach and tags
+-- the report of a port is its reply to the transaction; of found rows, their ids with their reach and tags
 abbrev pub DoesTell : PortReply → Did → Type 0
 DoesTell (replies.Pin (Ok pinned)) did = did ≡ dids.Pinned pinned.stamp
 DoesTell (replies.Pin (Err e)) did = did ≡ dids.Refused e
@@ -143,19 +142,19 @@ abbrev pub AnswersRows : PortReply → Type 0
 AnswersRows (replies.Query (Ok found)) = Unit {0}
 AnswersRows reply = ⊥
 
--- the reply as it is shown: itself, or, of a query that is out of memory for that, a refusal
+-- the reported reply: itself, or, for a query without memory for the report, that error
 abbrev pub IsTold : PortReply → PortReply → Type 0
 IsTold reply told = (told ≡ reply) ⊎ (AnswersRows reply × (told ≡ replies.Query (Err Memory)))
 
--- of a hold, by what is shown
+-- of a hold, by the report
 abbrev pub UnpinTold : ℕ → PortsValue → PortsValue → Did → Type 0
 UnpinTold stamp old new dids.Unpinned = (new ≡ record old { database = after_unpin old.database stamp })
     × (is_held stamp old.database.holds ≡ true)
 UnpinTold stamp old new (dids.Refused e) = (new ≡ old) × IsUnpinRefused old.database stamp e
 UnpinTold stamp old new did = ⊥
 
--- What comes of a request: a pin, or the hold of one taken away; a pin added; a lookup or an insertion at
--- the node of its number, as a step of the pass; or a query, which changes nothing.
+-- The effect of a request: a pin, or the removal of a hold; an added pin; a lookup or an insertion at the node
+-- of its number, as a step of the pass; or a query, which changes nothing.
 abbrev pub PortRequestTransition : ℕ → FrontValue → PortRequest → PortsValue → PortsValue → PortReply → Type 0
 PortRequestTransition pass seen (requests.Pin now at_least) old new (replies.Pin pinned) =
     PinTransition now at_least old new pinned
@@ -172,13 +171,13 @@ PortRequestTransition pass seen (requests.Insert node entry) old new (replies.In
     × HasLedNode node (λ was is. InsertTransition pass seen entry was is made) old new
 PortRequestTransition pass seen request old new reply = ⊥
 
--- the request asks for this moment, where it asks for a pin
+-- the request has this time, if it is one for a pin
 abbrev pub IsAskedAt : ℕ → PortRequest → Type 0
 IsAskedAt now (requests.Pin moment at_least) = moment ≡ now
 IsAskedAt now request = Unit {0}
 
--- The reply is one to the request, right in the history that it shows, which is part of the whole. The port that
--- was asked left the ports so, as a step of the pass; and holds and users came and went fairly.
+-- The reply is one to the request, correct in the history that it shows, which is a prefix of the whole. This
+-- is the effect on the port, as a step of the pass; and no other actor lost holds or users.
 pub record IsAsked (next : Next) (pass : ℕ) (seen : FrontValue) (request : PortRequest) (old new : PortsValue)
     (reply : PortReply) : Type 0 where
   pub to : IsReplyTo next request reply

@@ -1,4 +1,4 @@
--- The holdings of a world: who has each hold of a stamp, and who uses each pin.
+-- The holdings of a world: the owner of each hold of a stamp, and the users of each pin.
 use Rattle.std.specs.Prelude.{◌≡◌, ℕ, ◌+◌, ◌<◌, ◌≤◌, List, [], ◌∷◌, Option, Some, None, map, sum_by, false}
 use Rattle.txc_db.specs.DatabaseValue.{IsSound}
 use Rattle.txc_db.specs.Laws.{OneHoldLess}
@@ -18,8 +18,8 @@ use Rattle.txc_world.specs.declared.reply.Reply.{Reply}
 use Rattle.txc_world.specs.Losing.{IfPortLoses, IfReplyLost}
 use Rattle.txc_world.specs.Ports.{PortsValue}
 
--- what an actor has: the stamps of the pins that it was handed or added, of each of which it is a user; and
--- the stamps whose holds are its own to take away
+-- the account of an actor: the stamps of the pins that were issued to it or added by it, of each of which it is
+-- a user; and the stamps whose holds it must remove
 pub record Account : Type 0 where
   pub taken : List ℕ
   pub own : List ℕ
@@ -27,7 +27,7 @@ pub record Account : Type 0 where
 abbrev pub nothing : Account
 nothing = record { taken = []; own = [] }
 
--- these pins were handed out
+-- these pins were issued
 abbrev pub handed : List Pin → Account
 handed pins = record { taken = map (λ p. p.stamp) pins; own = [] }
 
@@ -52,7 +52,7 @@ account_at None = nothing
 account_at (Some actor) = account_of actor
 
 -- the stamps that the database holds, one for each hold; the pins of the pincushion, with their users; and
--- what each actor has
+-- the account of each actor
 pub record Holdings : Type 0 where
   pub holds : List ℕ
   pub entries : List PinEntry
@@ -65,11 +65,11 @@ holdings_of ports accounts = record {
   accounts = accounts;
 }
 
--- how often the actors took the stamp
+-- the number of times that the actors took the stamp
 abbrev pub times_taken : ℕ → List Account → ℕ
 times_taken stamp accounts = sum_by (λ a. times stamp a.taken) accounts
 
--- how many holds of the stamp are the actors' own
+-- the number of holds of the stamp that are the actors' own
 abbrev pub times_own : ℕ → List Account → ℕ
 times_own stamp accounts = sum_by (λ a. times stamp a.own) accounts
 
@@ -78,16 +78,16 @@ pub record KeepsPins (old new : PortsValue) : Type 0 where
   pub pins : pins_of new.cushion.entries ≡ pins_of old.cushion.entries
   pub same : new ≡ record old { cushion = record old.cushion { entries = new.cushion.entries } }
 
--- each of these pins has one user fewer, where they have that many
+-- each of these pins has one user fewer, if they have that many
 abbrev pub GivesBack : PortsValue → PortsValue → List Pin → Type 0
 GivesBack old new pins = HaveUsers old.cushion.entries (map (λ p. p.stamp) pins)
     → (stamp : ℕ) → users_of stamp new.cushion.entries + times stamp (map (λ p. p.stamp) pins)
     ≡ users_of stamp old.cushion.entries
 
--- ---- what a step of an actor does to them
+-- ---- the effect of an actor's step on them
 
--- Nobody else has less after it: of each stamp there came no fewer holds than the actor and the pincushion
--- have more, and no fewer users than the actor took more.
+-- No other actor has less after it: each stamp got at least as many holds as the actor and the pincushion have
+-- more, and at least as many users as the actor took more.
 pub record IsFair (old new : PortsValue) (before after : Account) : Type 0 where
   pub holds : (stamp : ℕ)
       → times stamp after.own + times stamp (stamps_of new.cushion.entries) + times stamp old.database.holds
@@ -95,17 +95,17 @@ pub record IsFair (old new : PortsValue) (before after : Account) : Type 0 where
   pub users : (stamp : ℕ) → times stamp after.taken + users_of stamp old.cushion.entries
       ≤ times stamp before.taken + users_of stamp new.cushion.entries
 
--- what a request spends of the account: the hold of the pin that is to be added or unpinned
+-- the part of the account that a request spends: the hold of the pin to be added or unpinned
 abbrev pub spent : PortRequest → Account
 spent (requests.AddPin pinned) = record { taken = []; own = pinned.stamp ∷ [] }
 spent (requests.Unpin stamp) = record { taken = []; own = stamp ∷ [] }
 spent request = nothing
 
--- what a reply brings: a user of a pin that was added, or the hold of one that is not
+-- the part of the account that a reply adds: a user of a pin that was added, or the hold of one that is not
 abbrev pub gained : PortReply → Account
 gained reply = record { taken = taken_after [] reply; own = stamp_if_any (left_after reply) }
 
--- what is asked at the stamp is gone only where it is held no more; and nothing else is refused so
+-- a snapshot is gone only if its stamp is held no more; and no other request fails so
 abbrev pub LosesOnlyUnheld : PortRequest → PortsValue → PortReply → Type 0
 LosesOnlyUnheld (requests.Query query stamp) p reply = IfPortLoses reply (times stamp p.database.holds ≡ 0)
 LosesOnlyUnheld request p reply = IfPortLoses reply ⊥
@@ -116,19 +116,21 @@ pub record HasLost (p : PortsValue) (account : Account) : Type 0 where
   pub had : 0 < times stamp account.taken + times stamp account.own
   pub lost : times stamp p.database.holds ≡ 0
 
--- one request of a transaction: it is fair, and is refused as gone only where that is so
+-- one request of a transaction: no other actor loses by it, and it fails for a lost snapshot only if that is
+-- held no more
 pub record AskCounts (request : PortRequest) (old new : PortsValue) (reply : PortReply) : Type 0 where
   pub fair : IsFair old new (spent request) (gained reply)
   pub gone : LosesOnlyUnheld request old reply
 
--- one step of an actor: it is fair, and is refused for a snapshot that is gone only where one of its own is
+-- one step of an actor: no other actor loses by it, and it fails for a lost snapshot only if that is one of its
+-- own
 pub record ActCounts (old new : PortsValue) (before after : Account) (reply : Reply) : Type 0 where
   pub fair : IsFair old new before after
   pub loss : IfReplyLost reply (HasLost old before)
 
--- ---- why
+-- ---- reasons
 
--- What the ports keep by themselves, and what their calls do, stamp by stamp.
+-- The ports' own holdings, and the effects of their calls, stamp by stamp.
 pub record CountRight (p : PortsValue) : Type 0 where
   pub sound : p.database.broken ≡ false → IsSound p.database
   pub cushion : IsCushion p.cushion

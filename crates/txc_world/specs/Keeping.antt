@@ -1,4 +1,4 @@
--- What comes of a step of the keeper at the plain ports.
+-- The effect of a step of the keeper at the plain ports.
 use Rattle.std.specs.Prelude.{◌≡◌, ◌⊎◌, ℕ, Vec, Result, Ok, Err, Option, Some, None, List, [], ◌∷◌, ◌++◌, map, slice_get, true, false}
 use Rattle.std.specs.List.{remove}
 use Rattle.std.specs.declared.alloc.Global.{Global}
@@ -24,7 +24,7 @@ use Rattle.txc_world.specs.Asks.{AddTransition, HasPinned, IsToldOf}
 
 -- ---- the database
 
--- of changes: they are committed at the base, with so many tags read; or the database refused
+-- of changes: they are committed at the base, with these tags read; or the database failed
 abbrev pub CommitTransition : ℕ → List Tag → List Change → PortsValue → PortsValue → Result ℕ DbError → Type 0
 CommitTransition base read changes old new (Ok stamp) =
     (new ≡ record old { database = after_commit old.database changes })
@@ -33,11 +33,11 @@ CommitTransition base read changes old new (Ok stamp) =
 CommitTransition base read changes old new (Err e) = HasRefused old new e
     × IsCommitRefused old.database base read changes e
 
--- of a change: it is committed at the newest stamp, with nothing read
+-- of a change: it is committed at the newest stamp, without reads
 abbrev pub WriteTransition : Change → PortsValue → PortsValue → Result ℕ DbError → Type 0
 WriteTransition change old new result = CommitTransition (newest old.database) [] (change ∷ []) old new result
 
--- of a vacuum: the horizon is the least held stamp, or the newest where none is held; or the database refused
+-- of a vacuum: the horizon is the least held stamp, or the newest if none is held; or the database failed
 abbrev pub VacuumTransition : PortsValue → PortsValue → Result ℕ DbError → Type 0
 VacuumTransition old new (Ok horizon) = (new ≡ record old { database = after_vacuum old.database })
     × (horizon ≡ next_horizon old.database)
@@ -63,12 +63,12 @@ pub record HasPinnedSpare (now : ℕ) (old new : PortsValue) (stamp : ℕ) : Typ
   pub stamp_is : stamp ≡ pinned.stamp
   pub spare : new.spare ≡ old.spare ++ pinned ∷ []
 
--- of a pin of the keeper: it was made; or the database refused, or there was no room for it
+-- of a pin of the keeper: it was made; or the database failed, or there was no memory for it
 abbrev pub PinSpareTransition : ℕ → PortsValue → PortsValue → Result ℕ DbError → Type 0
 PinSpareTransition now old new (Ok stamp) = HasPinnedSpare now old new stamp
 PinSpareTransition now old new (Err e) = HasRefused old new e × (IsPinRefused old.database 0 e ⊎ (e ≡ Memory))
 
--- the keeper has the pin no more, and the pincushion took it, or refused
+-- the keeper does not have the pin any more, and the pincushion added it, or failed
 pub record HasAddedSpare {A : Type 0} (stamp : ℕ) (old new : PortsValue) (reply : Result A AddError)
     : Type 0 where
   pub at : ℕ
@@ -79,15 +79,14 @@ pub record HasAddedSpare {A : Type 0} (stamp : ℕ) (old new : PortsValue) (repl
   pub spare : stamps_of_pins new.spare ≡ without stamp (stamps_of_pins old.spare)
   pub added : AddTransition pinned (record old { spare = remove old.spare at }) new reply
 
--- of adding a pin of the keeper's: it had it, and adds it; or it has none of the stamp, and nothing has
--- changed
+-- of adding a pin of the keeper's: it had it, and adds it; or it has none of the stamp, and nothing has changed
 abbrev pub AddSpareTransition : {A : Type 0} → ℕ → PortsValue → PortsValue → Option (Result A AddError) → Type 0
 AddSpareTransition stamp old new (Some added) = HasAddedSpare stamp old new added
 AddSpareTransition stamp old new None = (new ≡ old) × (is_held stamp (stamps_of_pins old.spare) ≡ false)
 
 -- ---- the pincushion
 
--- of users given back: each stamp has one fewer for each time that it is named; or a first one has none
+-- of returned users: each stamp has one fewer for each time that it is in the list; or a first one has none
 -- left, and nothing has changed
 abbrev pub GiveBackTransition : {A : Type 0} → List ℕ → PortsValue → PortsValue → Result A UnknownPin → Type 0
 GiveBackTransition stamps old new (Ok given) = (new ≡ record old { cushion = after_give_back old.cushion stamps })
@@ -95,7 +94,7 @@ GiveBackTransition stamps old new (Ok given) = (new ≡ record old { cushion = a
 GiveBackTransition stamps old new (Err unknown) = (new ≡ old)
     × IsFirstUnused old.cushion.entries stamps unknown.stamp
 
--- of pins taken out: exactly those that no transaction may use and that are too old; or nothing has changed
+-- of removed pins: exactly those without users that are too old; or nothing has changed
 abbrev pub RetireTransition : {A : Type 0} → ℕ → ℕ → PortsValue → PortsValue → Result (Vec ℕ Global) A → Type 0
 RetireTransition now age old new (Ok stamps) = (new ≡ record old { cushion = after_retire old.cushion now age })
     × (stamps.items ≡ retired old.cushion now age)

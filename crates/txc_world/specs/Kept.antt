@@ -1,4 +1,4 @@
--- What a step of the keeper leaves of the ports, and how it is shown.
+-- The ports after a step of the keeper, and its report.
 use Rattle.std.specs.Prelude.{◌≡◌, ◌≤◌, Ok, Err, Some, None, [], ◌∷◌, length}
 use Rattle.txc_db.specs.Calls.{IsQueryRefused}
 use Rattle.txc_world.specs.declared.step.Keep.{Keep}
@@ -12,7 +12,7 @@ use Rattle.txc_world.specs.Ports.{PortsValue, whole_of, HasLedNode, KeepsRow}
 use Rattle.txc_world.specs.Asks.{UnpinTransition}
 use Rattle.txc_world.specs.Keeping.{AddSpareTransition, GiveBackTransition, IsToldAnswer, PinSpareTransition, RetireTransition, VacuumTransition, WriteTransition}
 
--- what each step leaves of the ports, by its reply
+-- the ports after each step, by its reply
 abbrev pub KeepTransition : Keep → PortsValue → PortsValue → Reply → Type 0
 KeepTransition (keeps.Write change) old new (replies.At stamp) = WriteTransition change old new (Ok stamp)
 KeepTransition (keeps.Write change) old new (Refused (refusals.Database e)) = WriteTransition change old new (Err e)

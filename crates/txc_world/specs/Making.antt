@@ -9,7 +9,7 @@ use Rattle.txc_db.specs.Room.{HasCapacity}
 use Rattle.txc_world.specs.declared.settings.WorldSettings.{WorldSettings}
 use Rattle.txc_world.specs.Ports.{PortsValue, whole_of}
 
--- a node without entries and records, with so many passes, and so much room for records
+-- a node without entries and records, with this many passes, and this much room for records
 pub record IsNewNode (settings : NodeSettings) (row_cap passes : ℕ) (seen : FrontValue) (n : NodeValue)
     : Type 0 where
   pub settings_are : n.settings ≡ settings
@@ -23,7 +23,7 @@ pub record IsNewNode (settings : NodeSettings) (row_cap passes : ℕ) (seen : Fr
   pub seen_is : n.seen ≡ seen
   pub whole : n.broken ≡ false
 
--- how the node of a number is made
+-- the settings of the node of a number
 abbrev pub node_settings : WorldSettings → ℕ → NodeSettings
 node_settings settings number =
     record { number = number; capacity = settings.capacity; recent = settings.recent }

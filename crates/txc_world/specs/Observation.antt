@@ -1,4 +1,4 @@
--- What a list of steps and replies tells of a world.
+-- The reports of a world by a list of steps and replies.
 use Rattle.std.specs.Prelude.{◌≡◌, ◌⊎◌, ℕ, ◌+◌, ◌<◌, ◌≤◌, max, nat_lt, if◌then◌else◌, List, [], ◌∷◌, ◌++◌, length, take, Option, Some, None, Result, Ok, Err, slice_get, slice_index_or, slice_set, MatchOption}
 use Rattle.txc_tags.specs.Keys.{Call}
 use Rattle.txc_rows.specs.declared.query.Change.{Change}
@@ -33,23 +33,23 @@ use Rattle.txc_world.specs.declared.reply.Refusal.{Refusal}
 use Rattle.txc_world.specs.declared.reply.Refusal.TheVariants as refusals
 use Rattle.txc_world.specs.declared.reply.Refusal.TheVariants.{NoActor, NoNode, AlreadyOpen, NotOpen, MidCall, NoRequest}
 
--- ---- what is shown
+-- ---- the observation
 
--- an open read-only transaction: its bounds, its open call, and the calls that were answered
+-- an open read-only transaction: its bounds, its open call, and its completed calls
 pub record Reading : Type 0 where
   pub bounds : Bounds
   pub call : Option Call
   pub answers : List Recorded
 
--- an open read-write transaction: its base, its open call, what it was answered, and its changes
+-- an open read-write transaction: its base, its open call, its results, and its changes
 pub record Writing : Type 0 where
   pub base : ℕ
   pub call : Option Call
   pub answers : List Given
   pub changes : List Change
 
--- an actor has nothing open; or a read-only or a read-write transaction; or that has ended, and it has the hold
--- of a stamp still to take away
+-- an actor is idle; or has a read-only or a read-write transaction open; or that has ended, and the hold of a
+-- stamp must still be removed
 pub data ObservedActor : Type 0 where
   idle : ObservedActor
   reading : Reading → ObservedActor
@@ -65,14 +65,14 @@ pub record Observation : Type 0 where
   pub floors : List ℕ
   pub actors : List ObservedActor
 
--- ---- what an actor's step tells
+-- ---- the reports of an actor's step
 
--- the answered call stands after those before it
+-- the completed call follows those before it
 abbrev pub with_answered_call : Option Call → List ℕ → List Recorded → List Recorded
 with_answered_call None value answers = answers
 with_answered_call (Some key) value answers = answers ++ record { key = key; value = value } ∷ []
 
--- the call has ended so, or goes on
+-- the call has ended so, or continues
 abbrev pub after_end : Option (Result (List ℕ) TxnError) → Reading → Reading
 after_end None r = r
 after_end (Some (Ok value)) r = record r { call = None; answers = with_answered_call r.call value r.answers }
@@ -89,12 +89,12 @@ writing_on (Some (Ok value)) w =
     record w { call = None; answers = given_of w.call value w.answers }
 writing_on (Some (Err error)) w = record w { call = None }
 
--- given up, with this hold to take away
+-- aborted, with this hold to be removed
 abbrev pub given_up : Option ℕ → ObservedActor
 given_up None = idle
 given_up (Some stamp) = leaving stamp
 
--- what the actor has open after what it did and was replied
+-- the actor's open transaction after this act and its reply
 abbrev pub observed_after : Act → Reply → ObservedActor → ObservedActor
 observed_after (BeginRo bounds) Begun observed = reading (record { bounds = bounds; call = None; answers = [] })
 observed_after BeginRw (Based base) observed =
@@ -114,12 +114,12 @@ observed_after Commit (At stamp) (writing w) = leaving w.base
 observed_after Abort (Aborted left) observed = given_up left
 observed_after act reply observed = observed
 
--- a pin that was replied with a stamp stands in the history
+-- a pin whose reply has a stamp is in the history
 abbrev pub did_in : Did → ℕ → History → History
 did_in (Pinned stamp) now L = L ++ pin_event now ∷ []
 did_in did now L = L
 
--- a commit of the changes stands in the history where it was replied with a stamp above its length
+-- a commit of the changes is in the history if its reply has a stamp above its length
 abbrev pub commit_in : List Change → ℕ → History → History
 commit_in changes stamp L =
     if nat_lt (length L) stamp then L ++ commit_event (state_at L (length L)) changes ∷ [] else L
@@ -129,21 +129,21 @@ act_in Request (Asked did end) (reading r) L = did_in did r.bounds.now L
 act_in Commit (At stamp) (writing w) L = commit_in w.changes stamp L
 act_in act reply observed L = L
 
--- ---- what a step of the keeper tells
+-- ---- the reports of a step of the keeper
 
 abbrev pub keep_in : Keep → Reply → History → History
 keep_in (keeps.Write change) (At stamp) L = commit_in (change ∷ []) stamp L
 keep_in (keeps.Pin now) (At stamp) L = L ++ pin_event now ∷ []
 keep_in keep reply L = L
 
--- it has a pin more to add, or has spent one, on a pincushion that may have refused it
+-- it has one more pin to add, or has spent one, at a pincushion that may have failed
 abbrev pub spare_after : Keep → Reply → List ℕ → List ℕ
 spare_after (keeps.Pin now) (At stamp) spare = spare ++ stamp ∷ []
 spare_after (keeps.Add stamp) replies.Added spare = without stamp spare
 spare_after (keeps.Add stamp) (Refused (refusals.Pincushion error)) spare = without stamp spare
 spare_after keep reply spare = spare
 
--- ---- what an actor's session tells
+-- ---- the reports of an actor's session
 
 -- the floor of the session of the actor of that number
 abbrev pub floor_at : List ℕ → ℕ → ℕ
@@ -155,13 +155,13 @@ floor_by (Receipt pin) floor = floor_after floor pin
 floor_by (At stamp) floor = max floor stamp
 floor_by reply floor = floor
 
--- who begins in its session begins with the session's floor among the bounds
+-- a transaction that begins in its session has the session's floor among its bounds
 abbrev pub begin_at : ℕ → ℕ → ℕ → Act
 begin_at floor now staleness = BeginRo (record { now = now; staleness = staleness; at_least = floor })
 
 -- ---- a whole list
 
--- the actor's step tells nothing where there is no such actor
+-- the actor's step reports nothing if there is no such actor
 abbrev pub act_at : ℕ → Act → Reply → Observation → Option ObservedActor → Observation
 act_at number act reply told None = told
 act_at number act reply told (Some observed) = record told {
@@ -170,7 +170,7 @@ act_at number act reply told (Some observed) = record told {
   actors = slice_set told.actors number (observed_after act reply observed);
 }
 
--- what one step and its reply make of what was shown before
+-- the observation after one step and its reply
 abbrev pub after : Observation → Step → Reply → Observation
 after told (Actor number act) reply = act_at number act reply told (slice_get told.actors number)
 after told (BeginIn number now staleness) reply =
@@ -180,7 +180,7 @@ after told (Keeper keep) reply = record told {
   spare = spare_after keep reply told.spare;
 }
 
--- what a list of steps and their replies make of it, one after another
+-- the observation after a list of steps and their replies, one after another
 abbrev pub told_by : Observation → List Step → List Reply → Observation
 told_by told [] replies = told
 told_by told (step ∷ steps) [] = told
@@ -203,15 +203,16 @@ abbrev pub IsReceiptOfActor : Next → History → ObservedActor → Option Pin 
 IsReceiptOfActor next L (reading r) pin = Explains next L r.bounds pin r.answers
 IsReceiptOfActor next L observed pin = ⊥
 
--- What a commit that was replied this stamp made of a history of so many events, up to the stamp. No event
--- was added, nothing changes in the newest state, and each answer is right there; or the event of the net
--- changes was added, and each answer is right before it.
+-- The effect of a commit with this stamp in its reply on a history of `count` events. No event was added,
+-- nothing changes in the newest state, and each result is correct there; or the event of the net changes was
+-- added, and each result is correct before it.
 abbrev pub CommitMakes : Next → History → ℕ → Writing → ℕ → Type 0
 CommitMakes next L count w stamp =
     ((stamp ≡ count) × HasChangedNothing next (take stamp L) w.changes w.answers stamp)
     ⊎ ((stamp ≡ count + 1) × HasChanged next (take stamp L) w.changes w.answers stamp)
 
--- the stamp of a commit explains the answers: each is right at the base, and where the commit was made
+-- the stamp of a commit explains the results: each is correct at the base, and at the state to which the commit
+-- was made
 pub record CommitExplains (next : Next) (L : History) (count : ℕ) (w : Writing) (stamp : ℕ) : Type 0 where
   pub within : w.base ≤ count
   pub at_base : AreRightIn next (state_at L w.base) w.answers
@@ -221,14 +222,13 @@ abbrev pub IsCommitOf : Next → History → ℕ → ObservedActor → ℕ → T
 IsCommitOf next L count (writing w) stamp = CommitExplains next L count w stamp
 IsCommitOf next L count observed stamp = ⊥
 
--- what is replied explains what was shown of the actor, when the history had so many events
+-- the reply explains the answers shown of the actor, in a history of this many events
 abbrev pub ReplyExplains : Next → History → ℕ → ObservedActor → Reply → Type 0
 ReplyExplains next L count observed (Receipt pin) = IsReceiptOfActor next L observed pin
 ReplyExplains next L count observed (At stamp) = IsCommitOf next L count observed stamp
 ReplyExplains next L count observed reply = Unit {0}
 
--- a receipt, or the stamp of a commit, is given to nobody but an actor, and explains its answers in the
--- history
+-- only an actor receives a receipt or the stamp of a commit, and it explains the actor's answers in the history
 abbrev pub IsExplainedIn : Next → History → Observation → Step → Reply → Type 0
 IsExplainedIn next L told (Actor number act) reply =
     MatchOption (slice_get told.actors number) (IsNoCommit reply)
@@ -253,14 +253,14 @@ AreExplained next told (step ∷ steps) (reply ∷ replies) =
     IsExplainedIn next (after told step reply).history told step reply
     × AreExplained next (after told step reply) steps replies
 
--- ---- what is replied
+-- ---- replies
 
--- with a call open the one refusal, without one the other
+-- one refusal while a call is open, the other while none is
 abbrev pub due_by_call : Option Call → Option Refusal → Option Refusal → Option Refusal
 due_by_call (Some key) with_call without_call = with_call
 due_by_call None with_call without_call = without_call
 
--- the refusal of the world's own that is due to an actor, if one is
+-- the refusal of the world itself that is due to an actor, if one is
 abbrev pub due_refusal : Act → ObservedActor → Option Refusal
 due_refusal (BeginRo bounds) idle = None
 due_refusal (BeginRo bounds) observed = Some AlreadyOpen
@@ -281,8 +281,8 @@ due_refusal Commit (reading r) = due_by_call r.call (Some MidCall) None
 due_refusal Commit (writing w) = due_by_call w.call (Some MidCall) None
 due_refusal Abort observed = None
 
--- What an actor's step is replied where no such refusal is due: what was asked for, or the refusal of what was
--- asked.
+-- The reply to an actor's step if no such refusal is due: the result of the request, or the error of the port
+-- that failed.
 abbrev pub IsActReply : Act → ObservedActor → Reply → Type 0
 IsActReply (BeginRo bounds) observed reply = (reply ≡ Begun) ⊎ (reply ≡ Refused refusals.Memory)
 IsActReply BeginRw observed (Based base) = Unit {0}
@@ -303,7 +303,7 @@ IsActReply Commit (writing w) (Refused (refusals.Database error)) = Unit {0}
 IsActReply Abort observed (Aborted left) = Unit {0}
 IsActReply act observed reply = ⊥
 
--- the refusal that is due, and no other reply; or one that suits
+-- exactly the refusal that is due; if none is, a reply that suits
 abbrev pub IsDueOr : Option Refusal → Type 0 → Reply → Type 0
 IsDueOr (Some refusal) Suits reply = reply ≡ Refused refusal
 IsDueOr None Suits reply = Suits
@@ -318,8 +318,8 @@ due_keep nodes spare (keeps.Sweep node horizon) = if nat_lt node nodes then None
 due_keep nodes spare (keeps.Add stamp) = if is_held stamp spare then None else Some NoRequest
 due_keep nodes spare keep = None
 
--- what a step of the keeper is replied where no refusal of the world's own is due: what was asked for, or the
--- refusal of what was asked
+-- the reply to a step of the keeper if no refusal of the world itself is due: the result of the request, or the
+-- error of the port that failed
 abbrev pub IsKeepReply : Keep → Reply → Type 0
 IsKeepReply (keeps.Write change) (At stamp) = Unit {0}
 IsKeepReply (keeps.Write change) (Refused (refusals.Database error)) = Unit {0}
@@ -346,7 +346,7 @@ IsKeepReply keep reply = ⊥
 abbrev pub IsKeepDue : ℕ → List ℕ → Keep → Reply → Type 0
 IsKeepDue nodes spare keep reply = IsDueOr (due_keep nodes spare keep) (IsKeepReply keep reply) reply
 
--- a step of nobody is refused; any other is replied what is due
+-- a step of an actor that does not exist is refused; the reply to any other is the one due
 abbrev pub IsDue : Observation → Step → Reply → Type 0
 IsDue told (Actor number act) reply =
     MatchOption (slice_get told.actors number) (reply ≡ Refused NoActor) (λ observed. IsActDue observed act reply)

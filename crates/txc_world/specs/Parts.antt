@@ -1,9 +1,9 @@
--- Fronts of one row, and what each shows of the whole.
+-- Fronts of the same row, and the prefix of the history that each shows.
 use Rattle.std.specs.Prelude.{◌≡◌}
 use mathlib.Core.List.{IsPrefix}
 use Rattle.txc_db.specs.Seen.{FrontValue}
 
--- the front is of the same row, and shows a beginning of what the whole shows
+-- the front is of the same row, and shows a prefix of the whole history
 pub record IsPartOf (whole part : FrontValue) : Type 0 where
   pub row : part.events ≡ whole.events
   pub begins : IsPrefix part.history whole.history

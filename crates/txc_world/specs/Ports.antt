@@ -21,12 +21,13 @@ pub record PortsValue : Type 0 where
   pub spare : List Pinned
   pub actors : ℕ
 
--- what a front of the whole history shows
+-- the front of the whole history
 abbrev pub whole_of : PortsValue → FrontValue
 whole_of p = front_of p.database
 
--- What is true of a node: its history is stored, and it began before the first event. What it has seen is of the row, and, unless it is broken, a part of the whole;
--- each actor has a pass, by its number, and the keeper has the last one.
+-- The invariant of a node: its history is stored, and began before the first event. It has seen events of the
+-- row and, unless the node is broken, a prefix of the whole history. Each actor has a pass, by its number, and
+-- the keeper has the last one.
 pub record IsNodeOf (whole : FrontValue) (actors : ℕ) (n : NodeValue) : Type 0 where
   pub kind : HasRow n.name
   pub begun : n.from ≡ 0
@@ -34,15 +35,15 @@ pub record IsNodeOf (whole : FrontValue) (actors : ℕ) (n : NodeValue) : Type 0
   pub seen : n.broken ≡ false → IsPartOf whole n.seen
   pub passes : n.passes ≡ actors + 1
 
--- what is true of the ports: what the pincushion, the nodes and the pins show is part of the whole
+-- the invariant of the ports: each front of the pincushion, the nodes and the pins is part of the whole
 pub record ArePorts (p : PortsValue) : Type 0 where
   pub cushion : IsPartOf (whole_of p) (cushion_front p.cushion)
   pub nodes : All (IsNodeOf (whole_of p) p.actors) p.nodes
   pub spare : All (λ pinned. IsPartOf (whole_of p) pinned.front) p.spare
 
--- ---- what steps leave
+-- ---- the effect of steps
 
--- what each step keeps: the row, the nodes and how they were made, and the actors; and the history grows
+-- each step keeps the row, the nodes and their settings, and the actors; the history only grows
 pub record KeepsRow (old new : PortsValue) : Type 0 where
   pub events : new.database.events ≡ old.database.events
   pub longer : IsPrefix old.database.history new.database.history
@@ -50,7 +51,7 @@ pub record KeepsRow (old new : PortsValue) : Type 0 where
   pub settings : map (λ n. n.settings) new.nodes ≡ map (λ n. n.settings) old.nodes
   pub actors : new.actors ≡ old.actors
 
--- the database refused, and nothing else was called
+-- the database failed, and nothing else was called
 pub record HasRefused (old new : PortsValue) (refusal : DbError) : Type 0 where
   pub is : new ≡ record old { database = new.database }
   pub left : IsLeft old.database new.database refusal

@@ -1,4 +1,4 @@
--- What actors are shown of transactions that begin in their sessions.
+-- The stamps shown to actors of transactions that begin in their sessions.
 use Rattle.std.specs.Prelude.{◌≡◌, ℕ, ◌≤◌, List, [], ◌∷◌, ◌++◌, Some}
 use Rattle.std.specs.List.{AllByRecursion}
 use Rattle.txc_cushion.specs.declared.pin.Pin.{Pin}
@@ -8,7 +8,7 @@ use Rattle.txc_world.specs.declared.step.Step.TheVariants.{Actor, BeginIn}
 use Rattle.txc_world.specs.declared.reply.Reply.{Reply}
 use Rattle.txc_world.specs.declared.reply.Reply.TheVariants.{Begun, Receipt, At}
 
--- each step beside its reply
+-- each step with its reply
 abbrev pub replied : List Step → List Reply → List (Step × Reply)
 replied [] replies = []
 replied (step ∷ steps) [] = []
@@ -33,9 +33,9 @@ ToldAtMost number most step reply = Unit {0}
 abbrev pub HaveToldAtMost : ℕ → ℕ → List (Step × Reply) → Type 0
 HaveToldAtMost number most happened = AllByRecursion (λ x. ToldAtMost number most x.0 x.1) happened
 
--- Nobody goes back, where an actor began a transaction in its session, and committed it, with no other begun in
--- between. The stamp of its receipt is not below any that the actor was shown before. Such a stamp is of a
--- receipt or of the commit of a read-write transaction, begun in the session or not.
+-- No session goes back. Let an actor begin a transaction in its session and commit it, with no other begun in
+-- between. Then the stamp of its receipt is not below any that the actor was shown before: that of a receipt,
+-- or of the commit of a read-write transaction, in the session or not.
 abbrev pub NoActorGoesBack : List Step → List Reply → Type 0
 NoActorGoesBack steps replies =
     (number now staleness : ℕ) (pin : Pin) (before between after : List (Step × Reply))

@@ -1,4 +1,4 @@
--- Tidy lists of steps: the keeper takes nothing away that it doesn't have.
+-- Tidy lists of steps: the keeper removes only holds and users of its own.
 use Rattle.std.specs.Prelude.{ℕ, ◌+◌, ◌≤◌, List, [], ◌∷◌, ◌++◌, Contains}
 use Rattle.txc_db.specs.DatabaseValue.{without}
 use Rattle.txc_cushion.specs.Entries.{stamps_of, times, users_of}
@@ -15,9 +15,9 @@ use Rattle.txc_world.specs.Keeping.{stamps_of_pins}
 use Rattle.txc_world.specs.Losing.{IfReplyLost}
 use Rattle.txc_world.specs.Ports.{PortsValue}
 
--- What the keeper has in hand, as its steps and their replies tell it. It has the stamps of the pins that it added
--- and has a user of; and those that it is to unpin, which a retire handed out or an addition that was refused
--- left.
+-- The keeper's own holds and users, computed from its steps and their replies: the stamps of the pins that it
+-- added and has a user of, and the stamps that it must unpin. A retirement returned the latter, or an addition
+-- that failed left them.
 pub record InHand : Type 0 where
   pub lent : List ℕ
   pub owed : List ℕ
@@ -25,7 +25,7 @@ pub record InHand : Type 0 where
 abbrev pub nothing_in_hand : InHand
 nothing_in_hand = record { lent = []; owed = [] }
 
--- what a step of the keeper makes of what it has in hand
+-- the keeper's own after one of its steps
 abbrev pub in_hand_kept : Keep → Reply → InHand → InHand
 in_hand_kept (keeps.Add stamp) replies.Added in_hand = record in_hand { lent = stamp ∷ in_hand.lent }
 in_hand_kept (keeps.Add stamp) (Refused (refusals.Pincushion error)) in_hand =
@@ -42,7 +42,7 @@ in_hand_after (Actor number act) reply in_hand = in_hand
 in_hand_after (BeginIn number now staleness) reply in_hand = in_hand
 in_hand_after (Keeper keep) reply in_hand = in_hand_kept keep reply in_hand
 
--- what a list of steps and their replies make of it, one after another
+-- the keeper's own after a list of steps and their replies, one after another
 abbrev pub in_hand_by : InHand → List Step → List Reply → InHand
 in_hand_by in_hand [] replies = in_hand
 in_hand_by in_hand (step ∷ steps) [] = in_hand
@@ -50,7 +50,7 @@ in_hand_by in_hand (step ∷ steps) (reply ∷ replies) = in_hand_by (in_hand_af
 
 -- ---- tidy
 
--- the keeper gives back a stamp that it added and did not give back, and unpins one that it is to unpin
+-- the keeper returns only users of pins that it added, and unpins only stamps that it must unpin
 abbrev pub IsTidyKeep : Keep → Reply → InHand → Type 0
 IsTidyKeep (keeps.GiveBack stamp) replies.GivenBack in_hand = Contains in_hand.lent stamp
 IsTidyKeep (keeps.Unpin stamp) replies.Unpinned in_hand = Contains in_hand.owed stamp
@@ -68,9 +68,9 @@ AreTidy in_hand (step ∷ steps) [] = Unit {0}
 AreTidy in_hand (step ∷ steps) (reply ∷ replies) =
     IsTidy step reply in_hand × AreTidy (in_hand_after step reply in_hand) steps replies
 
--- ---- what comes of it
+-- ---- consequences
 
--- nothing is refused for a snapshot that is gone: no request, no call, no query of the transaction's own, and no commit
+-- no request, call, query of the transaction itself or commit failed because its snapshot is gone
 abbrev pub LosesNothing : Reply → Type 0
 LosesNothing reply = IfReplyLost reply ⊥
 
@@ -86,9 +86,9 @@ LoseNoSnapshot (step ∷ steps) [] = Unit {0}
 LoseNoSnapshot (step ∷ steps) (reply ∷ replies) =
     LosesNoSnapshot step reply × LoseNoSnapshot steps replies
 
--- Each has what is its own. Of each stamp there are at least as many holds as the keeper has pins that it did
--- not add, the pincushion has pins, the keeper is to unpin, and the actors have holds. And there are at least as
--- many users as the keeper lent and the actors took.
+-- Everyone has their own. Of each stamp there are at least as many holds as these need: the keeper's pins that
+-- it did not add, the pincushion's pins, the stamps that the keeper must unpin, and the actors' holds. And
+-- there are at least as many users as the keeper has and the actors took.
 pub record AreBalanced (spare : List ℕ) (holdings : Holdings) (in_hand : InHand) : Type 0 where
   pub held : (stamp : ℕ) → times stamp spare + times stamp (stamps_of holdings.entries) + times stamp in_hand.owed
       + times_own stamp holdings.accounts ≤ times stamp holdings.holds
@@ -97,7 +97,7 @@ pub record AreBalanced (spare : List ℕ) (holdings : Holdings) (in_hand : InHan
 
 -- ---- a step of the keeper
 
--- a tidy step leaves to each what is its own
+-- a tidy step keeps the balance
 abbrev pub KeepsBalance : Keep → PortsValue → PortsValue → Reply → Type 0
 KeepsBalance keep old new reply = (in_hand : InHand) (accounts : List Account) → IsTidyKeep keep reply in_hand
     → AreBalanced (stamps_of_pins old.spare) (holdings_of old accounts) in_hand

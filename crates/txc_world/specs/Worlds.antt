@@ -1,4 +1,4 @@
--- What a world keeps, and how it is shown.
+-- The state of a world, and its value.
 use Rattle.std.specs.Prelude.{◌≡◌, ℕ, ◌≤◌, Bool, true, false, List, [], All, Option, None, Some, length, map}
 use Rattle.txc_db.specs.History.{History, state_at}
 use Rattle.txc_db.specs.Seen.{FrontValue}
@@ -30,7 +30,7 @@ told_of settings ports floors actors = record {
   actors = map observed_at actors;
 }
 
--- what callers see of a world: what is shown of it, its holdings, its ports, and its actors
+-- the value of a world in contracts: its observation, its holdings, its ports, and its actors
 pub record WorldValue : Type 0 where
   pub told : Observation
   pub holdings : Holdings
@@ -49,8 +49,8 @@ value_of_world settings ports floors actors = record {
 abbrev pub IsBalanced : WorldValue → InHand → Type 0
 IsBalanced world in_hand = AreBalanced world.told.spare world.holdings in_hand
 
--- what is true of every world: it has the nodes of its settings, at least one; each actor has its pass
--- through each, and its session; and no actor is in the middle of a step
+-- the invariant of every world: it has the nodes of its settings, at least one; each actor has its pass through
+-- each node, and its session; and no actor is in the middle of a step
 pub record IsWorld {A C : Type 0} (next : Next) (settings : WorldSettings) (ports : PortsValue)
     (floors : List ℕ) (actors : List (Option (Actor A C))) : Type 0 where
   pub nodes : length ports.nodes ≡ settings.nodes
@@ -61,16 +61,16 @@ pub record IsWorld {A C : Type 0} (next : Next) (settings : WorldSettings) (port
 
 -- ---- between two steps
 
--- What is true of a node between any two steps. What it has seen is of the history's row. Each result that it
--- holds is true in what it has seen, broken or not. Unless it is broken, it is so in the whole history, and
--- the node is what a legal history of its records leaves.
+-- The invariant of a node between any two steps: it has seen events of the history's row, and each result that
+-- it holds is true in the events seen, even if the node is broken. Unless it is broken, each is true in the
+-- whole history, and the node is the result of a legal history of its records.
 pub record IsTrueNode (next : Next) (whole : FrontValue) (n : NodeValue) : Type 0 where
   pub row : n.seen.events ≡ whole.events
   pub seen : IsNode next n.seen.history (start_of n.settings 0) n.records n.cache n.broken
   pub right : n.broken ≡ false → IsNode next whole.history (start_of n.settings 0) n.records n.cache false
 
--- What is true of a world between any two steps. The history that is shown of it is its database's, and the pins
--- are those that its keeper has. It has the nodes of its settings, each of which is true.
+-- The invariant of a world between any two steps: the history shown is its database's, the spare pins are its
+-- keeper's, and it has the nodes of its settings, each of which is true.
 pub record IsTrueWorld (next : Next) (w : WorldValue) : Type 0 where
   pub history : w.told.history ≡ w.ports.database.history
   pub spare : w.told.spare ≡ stamps_of_pins w.ports.spare
@@ -79,7 +79,7 @@ pub record IsTrueWorld (next : Next) (w : WorldValue) : Type 0 where
 
 -- ---- pin sets
 
--- the refusal of the pins of an actor, if one is due: there is no such actor, or it has no read-only
+-- the refusal due to a request for an actor's pins, if one is: no such actor exists, or it has no read-only
 -- transaction open
 abbrev pub due_of_pins : Option ObservedActor → Option Refusal
 due_of_pins None = Some NoActor
@@ -88,8 +88,8 @@ due_of_pins (Some (reading r)) = None
 due_of_pins (Some (writing w)) = Some NotOpen
 due_of_pins (Some (leaving stamp)) = Some NotOpen
 
--- Where a transaction may still be serialised: at the present or at a member. Each member is a pin that
--- the bounds allow, at which each answer is what its call gives without a cache.
+-- The stamps at which a transaction may still be serialised: the present, or a member. Each member is a pin
+-- that the bounds allow, at which each answer is the result of its call without a cache.
 pub record AreMembersOf (next : Next) (L : History) (r : Reading) (has_present : Bool)
     (members : List Pin) : Type 0 where
   pub some : members ≡ [] → has_present ≡ true

@@ -1,4 +1,4 @@
--- What comes of a step of a read-write transaction.
+-- The effect of a step of a read-write transaction.
 use Rattle.std.specs.Prelude.{◌≡◌, ◌⊎◌, ℕ, List, [], ◌∷◌, ◌++◌, Vec, Result, Ok, Err, Option, Some, None, IsNone, IsSome}
 use Rattle.std.specs.declared.alloc.Global.{Global}
 use Rattle.txc_tags.specs.Keys.{Call}
@@ -30,8 +30,8 @@ use Rattle.txc_world.specs.Keeping.{CommitTransition}
 use Rattle.txc_world.specs.ActorValues.{call_at_turn, ActorValue, CallValue, WritingValue, resting, writes}
 use Rattle.txc_world.specs.Actors.{IsGivenUp, IsNoted, IsToldQuery}
 
--- a transaction began at the newest stamp, which is held, with the functions as they are; or the database
--- refused that, and nothing is open, as before
+-- a transaction began at the newest stamp, which is held, with the functions unchanged; or the database failed,
+-- and still nothing is open
 abbrev pub BeginRwTransition : PortsValue → PortsValue → Objects → ActorValue → Reply → Type 0
 BeginRwTransition old new objects (writes w) reply = (base : ℕ) × HoldTransition old new (Ok base)
     × IsBegun base w.core × (w.objects ≡ objects) × (w.call ≡ None) × (reply ≡ Based base)
@@ -39,8 +39,7 @@ BeginRwTransition old new objects (resting left) reply = (e : DbError) × HoldTr
     × (left ≡ objects) × (reply ≡ Refused (Database e))
 BeginRwTransition old new objects actor reply = ⊥
 
--- a call is open, with the turn that its start gave, before any query; a function that is not there is
--- refused
+-- a call is open, with the turn that its start gave, before any query; a call of an unknown function fails
 pub record HasStartedRw (next : Next) (key : Call) (before : WritingValue) (actor : ActorValue) : Type 0 where
   pub core : RwValue
   pub objects : Objects
@@ -52,8 +51,8 @@ pub record HasStartedRw (next : Next) (key : Call) (before : WritingValue) (acto
       → turn ≡ turns.Ended (Err (CallRefused (NoFunction key.function)))
   pub same : core ≡ record before.core { answers = core.answers; call = core.call; reading = core.reading }
 
--- One request of a call: its query was asked at the base, and counts as read where it was answered; the call
--- went on with the rows, or was refused as the database refused.
+-- One request of a call. Its query was made at the base, and counts as read if it was answered. The call
+-- continued with the rows, or failed with the database's error.
 pub record HasAskedRw (next : Next) (query : Query) (p : PortsValue) (before after : RwValue)
     (was is : Objects) (did : Did) (turn : QueryTurn) : Type 0 where
   pub found : Result Found DbError
@@ -85,22 +84,22 @@ pub record HasRequestedRw (next : Next) (key : Call) (query : Query) (p : PortsV
   pub asks : HasAskedRw next query p before.core core before.objects objects did turn
   pub noted : IsNoted (call_at_turn key) turn call end
 
--- a request at a turn of the open call: its query is asked; or the call had ended, which is shown, and nothing else
--- has changed
+-- a request at a turn of the open call: its query is asked; or the call had ended, which is shown, and nothing
+-- else has changed
 abbrev pub RequestTransitionRw : Next → Call → QueryTurn → PortsValue → WritingValue → ActorValue → Reply → Type 0
 RequestTransitionRw next key (turns.Ask query) p before actor reply = HasRequestedRw next key query p before actor reply
 RequestTransitionRw next key (turns.Ended result) p before actor reply = (actor ≡ writes (record before { call = None }))
     × (reply ≡ Ended result)
 
--- a query of its own: its rows are those that were found at the base; or it is refused as the database
--- refused, or as out of memory
+-- a query of the transaction itself: its rows are those found at the base; or it failed with the database's
+-- error, or there is no memory
 abbrev pub FindTransitionRw : Query → ℕ → PortsValue → Result (Vec RowValue Global) TxnError → Type 0
 FindTransitionRw query base p (Ok rows) = (found : Found) × QueryTransition query base p (Ok found)
     × (rows.items ≡ found.rows.items)
 FindTransitionRw query base p (Err e) = (e ≡ Memory)
     ⊎ ((cause : DbError) × QueryTransition query base p (Err cause) × (e ≡ refused_request cause))
 
--- a query whose rows were answered was read, beside those before it; one that is refused may have been
+-- a query that was answered is added to those read; one that failed may be
 abbrev pub IsRead : Query → List Query → List Query → Result (Vec RowValue Global) TxnError → Type 0
 IsRead query old new (Ok rows) = new ≡ old ++ query ∷ []
 IsRead query old new (Err e) = (new ≡ old ++ query ∷ []) ⊎ (new ≡ old)
@@ -121,15 +120,15 @@ pub record HasFoundRw (query : Query) (p : PortsValue) (before : WritingValue) (
   pub read : IsRead query before.core.queried core.queried result
   pub same : core ≡ record before.core { queried = core.queried; answers = core.answers }
 
--- the change stands after those before it; or nothing has changed
+-- the change is added after those before it; or nothing has changed
 abbrev pub WriteTransitionRw : Change → WritingValue → ActorValue → Reply → Type 0
 WriteTransitionRw change before actor Kept = actor ≡ writes (record before {
   core = record before.core { changes = before.core.changes ++ change ∷ [] };
 })
 WriteTransitionRw change before actor reply = actor ≡ writes before
 
--- a commit: the changes were committed at the base with the tags of all that was read, and the hold of the
--- base is left; or the database refused, and the transaction is as it was
+-- a commit: the changes were committed at the base with the tags of all that was read, and the hold of the base
+-- was released; or the database failed, and the transaction is unchanged
 abbrev pub CommitTransitionRw : PortsValue → PortsValue → WritingValue → ActorValue → Reply → Type 0
 CommitTransitionRw old new before actor (At stamp) =
     CommitTransition before.core.base (tags_read before.core) before.core.changes old new (Ok stamp)

@@ -1,4 +1,4 @@
-//! What an actor does, each kind of step by itself.
+//! The steps of an actor, each kind by itself.
 ghost use Rattle.std.specs.Prelude.{◌≡◌, ℕ, ◌≤◌, ◌<◌, All, IfNone, IfSome, None, Some, length, vec_len};
 ghost use Rattle.txc_registry.specs.Objects.{AllIdle};
 ghost use Rattle.txc_app.specs.Eval.{Next};
@@ -16,8 +16,7 @@ ghost use Rattle.txc_world.specs.Ports.{whole_of, KeepsRow};
 ghost use Rattle.txc_world.specs.Observation.{did_in};
 
 use crate::actor::{Actor, OpenCall, OpenTxn};
-use crate::asking::told;
-use crate::did::Did;
+use crate::did::{Did, told};
 use crate::ports::Ports;
 use crate::reply::{Refusal, Reply};
 use crate::step::Act;
@@ -32,7 +31,8 @@ use txc_stamp::Reach;
 use txc_tags::Key;
 use txc_txn::{RunningTxn, TxnCore};
 
-// Begins a transaction with the pins that it is handed, or leaves nothing open. Out of memory, they are given back.
+// Begins a transaction with the pins that are issued for it. If memory cannot be allocated, they are returned,
+// and nothing is open.
 fn begin_ro<A: App, C: Cacheable>(
     alloc: Global,
     ports: &mut Ports<A>,
@@ -63,7 +63,7 @@ fn begin_ro<A: App, C: Cacheable>(
     }
 }
 
-// Starts a call. It asks for nothing yet, and is open even where it has ended at once.
+// Starts a call. It makes no request yet, and is open even if it has ended at once.
 fn start<A: App, C: Cacheable>(
     alloc: Global,
     whole: &Ports<A>,
@@ -87,7 +87,7 @@ fn start<A: App, C: Cacheable>(
     Reply::Started
 }
 
-// What the port did, but that a hit which holds no member is a miss.
+// Returns the port's action, with a hit in whose reach no member is as a miss.
 fn counted(did: Did, members: &[Pin]) -> Did
     ensures { result ≡ counted members.now did }
 {
@@ -97,14 +97,14 @@ fn counted(did: Did, members: &[Pin]) -> Did
     }
 }
 
-// Whether the reach holds one of the members.
+// Returns `true` if the reach holds one of the members.
 fn holds_any(reach: Reach, members: &[Pin]) -> bool
     ensures { result ≡ holds_any reach members.now }
 {
     members.iter().any(|pin| reach.holds(pin.stamp))
 }
 
-// Asks the port, and goes on with the reply.
+// Makes the request at the port, and continues with the reply.
 fn go_on<A: App, C: Cacheable>(
     alloc: Global,
     ports: &mut Ports<A>,
@@ -144,7 +144,7 @@ fn go_on<A: App, C: Cacheable>(
     (did, turn)
 }
 
-/// How the call stands at this turn: it is open still, or has ended.
+/// Returns the state of the call after this turn: still open, or ended with a result.
 pub(crate) fn note<R>(
     key: Key,
     turn: Turn<R, Value>,
@@ -160,7 +160,8 @@ pub(crate) fn note<R>(
     }
 }
 
-// Makes the next request of the open call. A call that ended before any is shown so by its first request.
+// Makes the next request of the open call. If the call ended before any request, its first request reports
+// that.
 fn request_call<A: App, C: Cacheable>(
     alloc: Global,
     ports: &mut Ports<A>,
@@ -188,7 +189,7 @@ fn request_call<A: App, C: Cacheable>(
     }
 }
 
-// Ends the transaction with its receipt, and gives its pins back.
+// Ends the transaction with its receipt, and returns its pins.
 fn commit<A: App, C: Cacheable>(
     ports: &mut Ports<A>,
     current: OpenTxn<A, C>,
@@ -205,7 +206,7 @@ fn commit<A: App, C: Cacheable>(
     (Actor::Idle(registry), Reply::Receipt(receipt.pin))
 }
 
-// Gives the transaction up, in the middle of a call too, and its pins back.
+// Aborts the transaction, also in the middle of a call, and returns its pins.
 fn abort<A: App, C: Cacheable>(ports: &mut Ports<A>, current: OpenTxn<A, C>) -> (Actor<A, C>, Reply)
     ensures acted { IsActed A.next Act.Abort ports.old ports.new (Actor.Reading current) result.0 result.1 }
     ensures leads { (next : Next) (pass : ℕ) → ReadingTransition next pass Act.Abort ports.old ports.new
@@ -219,7 +220,7 @@ fn abort<A: App, C: Cacheable>(ports: &mut Ports<A>, current: OpenTxn<A, C>) -> 
     }
 }
 
-// What an actor does that has a read-only transaction open.
+// Makes a step of an actor with an open read-only transaction.
 fn act_open<A: App, C: Cacheable>(
     alloc: Global,
     ports: &mut Ports<A>,
@@ -257,7 +258,7 @@ fn act_open<A: App, C: Cacheable>(
     }
 }
 
-// One step of an actor.
+// Makes one step of an actor.
 fn act_whole<A: App, C: Cacheable>(
     alloc: Global,
     ports: &mut Ports<A>,
@@ -282,7 +283,7 @@ fn act_whole<A: App, C: Cacheable>(
         Actor::Reading(current) => act_open(alloc, ports, pass, current, act),
         Actor::Writing(current) => act_writing(alloc, ports, current, act),
         Actor::Leaving(registry, stamp) => match act {
-            // It takes the hold away that is left, and has nothing open then.
+            // It removes the hold that is left, and has nothing open then.
             Act::Request => {
                 ports.count_right();
                 match ports.unpin(stamp) {
@@ -305,7 +306,7 @@ fn act_whole<A: App, C: Cacheable>(
     }
 }
 
-// A call starts or goes on where its transaction stands, since an actor is large to move. There is no reply to anything else.
+// A call starts or continues in place, since an actor is large to move. Any other act returns no reply here.
 fn call_there<A: App, C: Cacheable>(
     alloc: Global,
     ports: &mut Ports<A>,
@@ -328,7 +329,8 @@ fn call_there<A: App, C: Cacheable>(
     }
 }
 
-/// One step of the actor of a number, which is taken out of its place for what is not done there, and put back.
+/// Makes one step of the actor of a number. The actor is taken out of its place for an act that is not done
+/// there, and put back.
 pub(crate) fn act_at<A: App, C: Cacheable>(
     alloc: Global,
     ports: &mut Ports<A>,

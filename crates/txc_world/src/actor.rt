@@ -1,4 +1,4 @@
-//! What an actor has open.
+//! Actors and their open transactions.
 ghost use Rattle.std.specs.Prelude.{◌≡◌, map, Some, IfOk};
 
 use std::alloc::{AllocError, Global};
@@ -12,21 +12,21 @@ use txc_stamp::Stamp;
 use txc_tags::Key;
 use txc_txn::RunningTxn;
 
-/// A call that did not end for its caller yet: its key, and what it does next.
+/// A call that has not ended for its caller yet: its key, and its next step.
 #[derive(Drop)]
 pub(crate) struct OpenCall<R> {
     pub key: Key,
     pub turn: Turn<R, Value>,
 }
 
-/// A read-only transaction, and its call, where one is open.
+/// A read-only transaction, and its call, if one is open.
 #[derive(Drop)]
 pub(crate) struct OpenTxn<A: App, C: Cacheable> {
     pub txn: RunningTxn<A, C>,
     pub call: Option<OpenCall<PortRequest>>,
 }
 
-/// A read-write transaction with the registry of its functions, and its call, where one is open.
+/// A read-write transaction with the registry of its functions, and its call, if one is open.
 #[derive(Drop)]
 pub(crate) struct OpenRw<A: App, C: Cacheable> {
     pub core: RwCore,
@@ -41,11 +41,11 @@ pub(crate) enum Actor<A: App, C: Cacheable> {
     Idle(Registry<A, C>),
     Reading(OpenTxn<A, C>),
     Writing(OpenRw<A, C>),
-    /// Its transaction has ended, and it has the hold of the stamp still to take away.
+    /// Its transaction has ended, and the hold of the stamp must still be removed.
     Leaving(Registry<A, C>, Stamp),
 }
 
-/// Actors with nothing open, one for each registry.
+/// Makes idle actors, one for each registry. Fails only if memory cannot be allocated.
 pub(crate) fn idle_actors<A: App, C: Cacheable>(
     alloc: Global,
     registries: Vec<Registry<A, C>>,

@@ -1,7 +1,7 @@
-//! The keeper's steps, by what is asked of it.
+//! The keeper's steps, by kind.
 ghost use Rattle.txc_world.specs.Kept.{IsKeeperStep};
 
-use crate::asking::with_rows;
+use crate::did::with_rows;
 use crate::ports::Ports;
 use crate::reply::{Refusal, Reply};
 use crate::step::Keep;

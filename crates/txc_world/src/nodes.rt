@@ -13,7 +13,7 @@ use txc_db::{DbCore, HistoryFront};
 use txc_node::{Counts, Entry};
 use txc_shared::{Advanced, Insertion, NodeError, NodeFront, StoredNode};
 
-/// Gives the node an entry to keep, which is true in what the front shows. A node that refuses keeps nothing.
+/// Gives the node an entry to store, which is true in the front's history. A node that fails stores nothing.
 pub(crate) fn insert<A: App>(
     alloc: Global,
     node: &mut StoredNode<A>,
@@ -51,7 +51,7 @@ pub(crate) fn advance<A: App>(
     node.advance(alloc, pass, &whole)
 }
 
-/// The counts of the records that a front shows, which are stored.
+/// Returns the counts of the stored records that a front shows.
 pub(crate) fn counts_of(front: &NodeFront) -> Counts
     requires { HasRow front.now.name }
     ensures { AreCountsOf front.now.records result }

@@ -1,6 +1,10 @@
 //! The plain ports of a world.
-ghost use Rattle.std.specs.Prelude.{◌≡◌, ◌+◌, false, ◌≤◌, ◌<◌, length, IfOk, slice_get, Some, All};
+ghost use Rattle.std.specs.Prelude.{◌≡◌, ◌+◌, false, ◌<◌, length, IfOk, slice_get, Some, All};
 ghost use Rattle.txc_stream.specs.Names.{HasRow};
+
+mod asking;
+mod keeper;
+mod making;
 
 use std::alloc::{AllocError, Global};
 use std::marker::Model;
@@ -12,20 +16,20 @@ use txc_shared::StoredNode;
 use txc_stamp::Stamp;
 use txc_validity::Found;
 
-/// The database, the pincushion and the nodes of a world, and the pins that its keeper has and did not add
+/// The database, the pincushion and the nodes of a world, and the pins that its keeper has made and not added
 /// yet.
 ///
-/// What each of them shows of the history is part of the database's. Each actor has a pass through each
-/// node, by the actor's number, and the keeper has the last one.
+/// The history that each of them shows is a prefix of the database's. Each actor has a pass at each node, by
+/// the actor's number, and the keeper has the last one.
 #[derive(Drop)]
 pub(crate) struct Ports<A: App> {
-    pub(crate) database: DbCore,
-    pub(crate) cushion: CushionCore,
-    pub(crate) nodes: Vec<StoredNode<A>>,
-    pub(crate) spare: Vec<Pinned>,
-    pub(crate) actors: usize,
+    database: DbCore,
+    cushion: CushionCore,
+    nodes: Vec<StoredNode<A>>,
+    spare: Vec<Pinned>,
+    actors: usize,
     // The database's newest stamp.
-    pub(crate) newest: Stamp,
+    newest: Stamp,
 }
 
 impl<A: App> Model for Ports<A> {
@@ -54,11 +58,12 @@ impl<A: App> Model for Ports<A> {
 impl<A: App> Ports<A> {
     ghost use Rattle.txc_ports.specs.Answers.{IsFresh};
     ghost use Rattle.txc_world.specs.Asks.{AddTransition, FindTransition, FreshTransition, HoldTransition, PinTransition, UnpinTransition};
-    ghost use Rattle.txc_world.specs.Holdings.{GivesBack, KeepsPins};
+    ghost use Rattle.txc_world.specs.Holdings.{CountRight, GivesBack, KeepsPins};
     ghost use Rattle.txc_world.specs.Parts.{IsPartOf};
     ghost use Rattle.txc_world.specs.Ports.{whole_of, KeepsRow};
+    ghost use Rattle.txc_world.specs.Worlds.{IsTrueNode};
 
-    /// The database and the pincushion; all else is dropped.
+    /// Returns the database and the pincushion, and drops the rest.
     pub(crate) fn into_parts(self) -> (DbCore, CushionCore)
         ensures database { result.0 ≡ self.database }
         ensures cushion { result.1 ≡ self.cushion }
@@ -75,14 +80,14 @@ impl<A: App> Ports<A> {
         (database, cushion)
     }
 
-    /// How many nodes there are.
+    /// Returns how many nodes there are.
     pub(crate) fn len(&self) -> usize
         ensures { result ≡ length self.now.nodes }
     {
         self.nodes.len()
     }
 
-    /// One of the nodes.
+    /// Returns one of the nodes.
     pub(crate) fn node(&self, at: usize) -> &StoredNode<A>
         requires { at < length self.now.nodes }
         ensures there { slice_get self.now.nodes at ≡ Some result.now }
@@ -95,7 +100,7 @@ impl<A: App> Ports<A> {
         &self.nodes[at]
     }
 
-    /// Pins the present, with this moment.
+    /// Pins the present, at this wall-clock time in milliseconds.
     pub(crate) fn pin(
         &mut self,
         alloc: Global,
@@ -119,7 +124,7 @@ impl<A: App> Ports<A> {
         self.cushion.add(pinned)
     }
 
-    /// Takes one hold of the stamp away.
+    /// Removes one hold of the stamp.
     pub(crate) fn unpin(&mut self, stamp: Stamp) -> Result<(), DbError>
         ensures leads { UnpinTransition stamp self.old self.new result }
         ensures same { self.new ≡ record self.old { database = self.new.database } }
@@ -139,7 +144,7 @@ impl<A: App> Ports<A> {
         self.database.hold(alloc)
     }
 
-    /// The answer of the query at the stamp, with a front of the whole history.
+    /// Returns the answer of the query at the stamp, with a front of the whole history.
     #[tactic(auto, using(txc_app::proofs::Claims::found_rows_hold))]
     pub(crate) fn find(
         &mut self,
@@ -155,7 +160,7 @@ impl<A: App> Ports<A> {
         Ok(Answered { answer, front })
     }
 
-    /// The newest of the pins that the bounds allow, each with one user more.
+    /// Issues the newest of the pins that the bounds allow, each with one more user.
     pub(crate) fn fresh(
         &mut self,
         alloc: Global,
@@ -173,7 +178,7 @@ impl<A: App> Ports<A> {
         Ok(pins)
     }
 
-    /// Gives one user of each of the pins back. It takes no memory.
+    /// Removes one user of each of the pins. Does not allocate.
     pub(crate) fn give_back_pins(&mut self, pins: &Pins)
         ensures same { self.new ≡ record self.old { cushion = self.new.cushion } }
         ensures users { GivesBack self.old self.new pins.now.pins.items }
@@ -181,6 +186,24 @@ impl<A: App> Ports<A> {
     {
         for pin in &pins.pins {
             let _ = self.give_back(&[pin.stamp]);
+        }
+    }
+
+    /// States the ports' own holdings, and the effects of their calls stamp by stamp. It does nothing when it
+    /// runs.
+    pub(crate) fn count_right(&self)
+        ensures { CountRight self.now }
+    {
+        self.database.is_sound();
+        self.cushion.is_cushion();
+    }
+
+    /// Each node is true. It iterates over the nodes, and changes nothing.
+    pub(crate) fn are_true(&self)
+        ensures { All (IsTrueNode A.next (whole_of self.now)) self.now.nodes }
+    {
+        for at in 0..self.len() {
+            self.node(at).is_sound();
         }
     }
 }

@@ -1,4 +1,4 @@
-//! What the steps of a world are replied.
+//! Replies to the steps of a world.
 ghost use Rattle.std.specs.Fmt.{WritesOnOk};
 ghost use Rattle.txc_world.specs.Codes.{refusal_code};
 
@@ -14,23 +14,23 @@ use txc_rows::Row;
 use txc_shared::{Advanced, NodeError};
 use txc_stamp::Stamp;
 
-/// Why a step was refused. The first six are the world's own: they come before any other, in this order, and
-/// change nothing.
+/// Errors of a step. The first six are the world's own: they come before any other, in this order, and change
+/// nothing.
 #[derive(Clone, Copy, Debug, PartialEq, Eq, Error)]
 pub enum Refusal {
     #[error("there is no such actor")]
     NoActor,
     #[error("there is no such node")]
     NoNode,
-    /// The actor has a transaction open, or has the hold of one still to take away.
-    #[error("a transaction is open already")]
+    /// The actor has a transaction open, or the hold of an ended one must still be removed.
+    #[error("the actor has a transaction open already")]
     AlreadyOpen,
-    #[error("no transaction is open")]
+    #[error("the actor has no such transaction open")]
     NotOpen,
-    #[error("the transaction is in the middle of a call")]
+    #[error("the actor's transaction is in the middle of a call")]
     MidCall,
-    /// The actor has no call open; or the keeper has no such pin to add.
-    #[error("there is no request to make")]
+    /// The actor has no call open, or the keeper has no such pin queued.
+    #[error("the actor or the keeper has no request to make")]
     NoRequest,
     #[error("{0}")]
     Database(DbError),
@@ -40,10 +40,10 @@ pub enum Refusal {
     GiveBack(UnknownPin),
     #[error("{0}")]
     Node(NodeError),
-    /// A read-write transaction refused a query or a change.
+    /// A query or a change of a read-write transaction failed.
     #[error("{0}")]
     Transaction(TxnError),
-    /// A growth was refused.
+    /// Memory cannot be allocated.
     #[error("out of memory")]
     Memory,
 }
@@ -81,7 +81,7 @@ impl From<AllocError> for Refusal {
     }
 }
 
-/// What a step did.
+/// Effect of a step.
 #[derive(Drop)]
 pub enum Reply {
     /// A read-only transaction is open.
@@ -90,32 +90,31 @@ pub enum Reply {
     Based(Stamp),
     /// A call is open.
     Started,
-    /// What the port did that was asked, and how the call ended, where it ended with this.
+    /// The port's action, and the call's result, if the call has ended with this.
     Asked(Did, Option<Result<Value, TxnError>>),
-    /// How the call ended, where it ended before any request.
+    /// The call's result, if it ended before any request.
     Ended(Result<Value, TxnError>),
-    /// The rows of a query of a read-write transaction, as they were found.
+    /// The rows of a query of a read-write transaction, in the order of the answer.
     Answered(Vec<Row>),
-    /// The change is kept until the transaction commits.
+    /// The change is buffered until the transaction commits.
     Kept,
-    /// The pin of the stamp at which every answer of the transaction is right; none where no call was
-    /// answered.
+    /// The pin of the stamp at which every result of the transaction is correct, or `None` if no call was
+    /// completed.
     Receipt(Option<Pin>),
-    /// The transaction was given up. The hold of this stamp, if there is one, is still to be taken away by
-    /// one request.
+    /// The transaction was aborted. If there is a stamp, its hold must still be removed by one request.
     Aborted(Option<Stamp>),
     /// The newest stamp, after the commit of a read-write transaction, or a commit or a pin of the keeper.
     At(Stamp),
     Added,
     GivenBack,
-    /// The stamps of the pins that were taken out, the least first.
+    /// The stamps of the removed pins, in ascending order.
     Retired(Vec<Stamp>),
     Unpinned,
     /// The horizon.
     Vacuumed(Stamp),
     Rows(RowsFound),
     Advanced(Advanced),
-    /// How many entries were dropped.
+    /// The number of dropped entries.
     Swept(usize),
     Refused(Refusal),
 }

@@ -9,7 +9,7 @@ use txc_registry::{Cacheable, Registry};
 use txc_stamp::Stamp;
 use txc_txn::Session;
 
-/// Sessions in which nothing was noted, one for each registry.
+/// Makes sessions in which nothing was noted, one for each registry. Fails only if memory cannot be allocated.
 pub(crate) fn new_sessions<A: App, C: Cacheable>(
     alloc: Global,
     registries: &[Registry<A, C>],
@@ -19,7 +19,7 @@ pub(crate) fn new_sessions<A: App, C: Cacheable>(
     registries.iter().map(|_| Session::new()).collect(alloc)
 }
 
-/// The floor of the session of the actor of that number; the first stamp where there is no such actor.
+/// Returns the floor of the session of the actor of that number, or the first stamp if there is no such actor.
 pub(crate) fn floor_at(sessions: &[Session], number: usize) -> Stamp
     ensures { result ≡ floor_at sessions.now number }
 {
@@ -29,7 +29,7 @@ pub(crate) fn floor_at(sessions: &[Session], number: usize) -> Stamp
     }
 }
 
-/// The session of the actor of that number notes the stamp that the actor was shown, if it was shown one.
+/// Notes the stamp in the reply, if it has one, in the session of the actor of that number.
 pub(crate) fn note(sessions: &mut Vec<Session>, number: usize, reply: &Reply)
     requires { number < vec_len sessions.old }
     ensures { sessions.new.items

@@ -1,14 +1,14 @@
-/// What a world is made of.
+/// Settings of a world.
 #[derive(Clone, Copy, Debug, PartialEq, Eq)]
 pub struct WorldSettings {
-    /// How many entries a node holds, from 1 to [`txc_node::MAX_CAPACITY`].
+    /// The number of entries that a node stores, from 1 to [`txc_node::MAX_CAPACITY`].
     pub capacity: usize,
-    /// How many nodes there are, at least one.
+    /// The number of nodes, at least one.
     pub nodes: usize,
-    /// Of how many of the last events a node keeps the tags, from 1 to [`txc_node::MAX_RECENT`].
+    /// The number of last events whose tags a node stores, from 1 to [`txc_node::MAX_RECENT`].
     pub recent: usize,
-    /// A transaction's newest pin is renewed where its moment is more than so many milliseconds ago.
+    /// The age in milliseconds beyond which a transaction renews its newest pin.
     pub renew_after: u64,
-    /// How many records each history holds, from 1 to [`txc_stream::MAX_CAPACITY`].
+    /// The number of records that each history has room for, from 1 to [`txc_stream::MAX_CAPACITY`].
     pub row_cap: usize,
 }

@@ -4,7 +4,7 @@ use txc_rows::{Change, Query};
 use txc_stamp::Stamp;
 use txc_tags::Key;
 
-/// What an actor does.
+/// Step of an actor.
 #[derive(Drop)]
 pub enum Act {
     /// Begins a read-only transaction.
@@ -13,40 +13,40 @@ pub enum Act {
     BeginRw,
     /// Starts a call of its open transaction. It makes no request.
     Start(Key),
-    /// Makes the next request of its open call, or the one that is left after its transaction has ended.
+    /// Makes the next request of its open call, or the remaining one after its transaction has ended.
     Request,
-    /// Asks the database at the base of its read-write transaction.
+    /// Makes a query at the base of its read-write transaction.
     Ask(Query),
-    /// Keeps a change of its read-write transaction until that commits. It makes no request.
+    /// Buffers a change of its read-write transaction until that commits. It makes no request.
     Write(Change),
-    /// Ends its transaction: a read-only one with a receipt; a read-write one where the database commits it.
+    /// Ends its transaction: a read-only one with a receipt; a read-write one if the database commits it.
     Commit,
-    /// Gives its transaction up, in the middle of a call too.
+    /// Aborts its transaction, also in the middle of a call.
     Abort,
 }
 
-/// What the keeper does.
+/// Step of the keeper.
 #[derive(Drop)]
 pub enum Keep {
-    /// Commits the change at the newest stamp, with nothing read.
+    /// Commits the change at the newest stamp, without reads.
     Write(Change),
-    /// Pins the present, with this moment in milliseconds.
+    /// Pins the present, at this wall-clock time in milliseconds.
     Pin(u64),
-    /// Adds the pin of the stamp that it pinned itself, and did not add yet, to the pincushion.
+    /// Adds the pin of the stamp, which the keeper pinned and has not added yet, to the pincushion.
     Add(Stamp),
-    /// Gives one user of the pin of the stamp back to the pincushion.
+    /// Removes one user of the pin of the stamp at the pincushion.
     GiveBack(Stamp),
-    /// Takes the pins out that no transaction may use and whose moment is more than `age` before `now`.
+    /// Removes the pins without users whose time is more than `age` before `now`, in milliseconds.
     Retire { now: u64, age: u64 },
-    /// Takes one hold of the stamp away.
+    /// Removes one hold of the stamp.
     Unpin(Stamp),
-    /// Drops the versions that no held stamp shows.
+    /// Drops the versions that no held stamp needs.
     Vacuum,
-    /// Asks the database.
+    /// Makes a query at the stamp.
     Query(Stamp, Query),
     /// Lets the node of that number take the next event.
     Advance(usize),
-    /// Lets the node of that number drop the entries that end at the horizon or before it.
+    /// Lets the node of that number drop the entries whose span ends at the horizon or before it.
     Sweep(usize, Stamp),
 }
 

@@ -36,10 +36,10 @@ use txc_registry::{Cacheable, Registry};
 use txc_shared::StoredNode;
 use txc_txn::Session;
 
-/// Where a read-only transaction may still be serialised.
+/// The stamps at which a read-only transaction may still be serialised.
 #[derive(Clone, Copy, Debug)]
 pub struct Members<'a> {
-    /// Whether it may be serialised at the present still.
+    /// `true` if it may still be serialised at the present.
     pub has_present: bool,
     /// Its members, the newest first.
     pub pins: &'a [Pin],
@@ -48,15 +48,15 @@ pub struct Members<'a> {
 /// Actors, each with a registry of its own and a transaction that may be open, and the keeper, over one
 /// database, one pincushion and the nodes.
 ///
-/// Contracts see what is shown of it: its settings; its history; the stamps of the pins that the keeper has
-/// and did not add yet. They see the floor of each actor's session, and what each actor has open. They see its
-/// holdings too: the holds of the database, the pins of the pincushion with their users, and what each actor has of
+/// Contracts see what its replies report: its settings; its history; the stamps of the keeper's pins that are
+/// not added yet; the floor of each actor's session; and each actor's open transaction. They also see its
+/// holdings: the holds of the database, the pins of the pincushion with their users, and each actor's share of
 /// both.
 #[derive(Drop)]
 pub struct World<A: App, C: Cacheable> {
     settings: WorldSettings,
     ports: Ports<A>,
-    // None but in the middle of a step of it.
+    // None only in the middle of a step of that actor.
     actors: Vec<Option<Actor<A, C>>>,
     // One for each actor.
     sessions: Vec<Session>,
@@ -73,8 +73,8 @@ impl<A: App, C: Cacheable> Model for World<A, C> {
 }
 
 impl<A: App, C: Cacheable> World<A, C> {
-    /// An empty history, an empty pincushion and empty nodes, and an actor for each registry, with nothing
-    /// open and nothing noted in its session.
+    /// Makes a world with an empty history, an empty pincushion and empty nodes, and an idle actor for each
+    /// registry, with nothing noted in its session. Fails only if memory cannot be allocated or SQLite fails.
     pub fn new(
         alloc: Global,
         settings: WorldSettings,
@@ -108,8 +108,8 @@ impl<A: App, C: Cacheable> World<A, C> {
         })
     }
 
-    /// Its database and its pincushion, as they stand, for the calls under locks. All else is dropped: what is
-    /// open, and the holds and the users that it has, which nobody gives back then.
+    /// Returns its database and its pincushion, for the calls under locks. The rest is dropped: open
+    /// transactions, and their holds and users, which no one releases then.
     pub fn into_parts(self) -> (DbCore, CushionCore)
         ensures database { result.0 ≡ self.ports.database }
         ensures cushion { result.1 ≡ self.ports.cushion }
@@ -124,14 +124,15 @@ impl<A: App, C: Cacheable> World<A, C> {
         ports.into_parts()
     }
 
-    /// How many actors there are.
+    /// Returns how many actors there are.
     pub fn actor_count(&self) -> usize
         ensures { result ≡ length self.now.told.actors }
     {
         self.actors.len()
     }
 
-    /// The members of the actor's read-only transaction, and whether the present is there.
+    /// Returns the members of the actor's read-only transaction, and whether its pin set has the present. Fails
+    /// if there is no such actor, or it has no read-only transaction open.
     pub fn pins(&self, number: usize) -> Result<Members<'_>, Refusal>
         ensures due { MatchOption (due_of_pins (slice_get self.now.told.actors number)) (IsOk result)
             (λ refusal. result ≡ Err refusal) }
@@ -156,8 +157,9 @@ impl<A: App, C: Cacheable> World<A, C> {
         })
     }
 
-    /// A node, as it is between two steps. Unless it is broken, each result that it holds is true in the
-    /// history, and it is what a legal history of records leaves, whose events are those of the history.
+    /// Returns a node, as it is between two steps. Unless it is broken, each result that it stores is true in
+    /// the history, and its state is that after a legal history of records, whose events are those of the
+    /// history.
     pub fn node(&self, at: usize) -> &StoredNode<A>
         requires { at < self.now.told.settings.nodes }
         ensures there { slice_get self.now.ports.nodes at ≡ Some result.now }
@@ -170,14 +172,15 @@ impl<A: App, C: Cacheable> World<A, C> {
         node
     }
 
-    /// What is true of every world between two steps. It goes over the nodes, and changes nothing.
+    /// Every world is true between two steps. It iterates over the nodes, and changes nothing.
     pub fn is_true(&self)
         ensures { IsTrueWorld A.next self.now }
     {
         self.ports.are_true();
     }
 
-    /// The counts of a node's records, as it is between two steps. It takes no memory.
+    /// Returns the counts of a node's records, as it is between two steps. Fails if there is no such node. Does
+    /// not allocate.
     pub fn counts(&self, at: usize) -> Result<Counts, Refusal>
         ensures due { MatchOption (slice_get self.now.ports.nodes at) (result ≡ Err Refusal.NoNode)
             (λ node. IfOk result (AreCountsOf node.records) × IsOk result) }
@@ -196,7 +199,7 @@ impl<A: App, C: Cacheable> World<A, C> {
         let _count = self.actors.len();
     }
 
-    // One step of an actor.
+    // Makes one step of an actor.
     fn act(&mut self, alloc: Global, number: usize, doing: &Act) -> Reply
         ensures { IsWholeStep A.next self.old (Step.Actor number doing.now) result self.new }
     {
@@ -219,7 +222,7 @@ impl<A: App, C: Cacheable> World<A, C> {
         reply
     }
 
-    /// Takes one step, as `run` does, and returns what it was replied.
+    /// Makes one step, as `run` does, and returns its reply.
     pub fn step(&mut self, alloc: Global, step: &Step) -> Reply
         ensures { IsWholeStep A.next self.old step.now result self.new }
     {
@@ -247,20 +250,22 @@ impl<A: App, C: Cacheable> World<A, C> {
         }
     }
 
-    /// Takes the steps one after another, and returns what each was replied. The room of the replies is made
-    /// before the first step; out of memory later on is a reply.
+    /// Makes the steps one after another, and returns their replies. Memory for the replies is allocated before
+    /// the first step; a later failed allocation is a reply.
     ///
-    /// What it leaves is what the steps and their replies tell. A receipt is given to nobody but an actor
-    /// with a read-only transaction open, and explains the answers shown of it. Nobody but an actor with a
-    /// read-write transaction open has that committed. Each answer shown of it is right at its base, and at
-    /// the stamp before the event of the commit, or, where there is none, at the newest stamp. Both hold in
-    /// the history as it was shown by then, and in that of the whole run.
+    /// The state afterwards is the one that the steps and their replies determine. Only an actor with an open
+    /// read-only transaction gets a receipt, and it explains the values that the replies reported of it. Only
+    /// an actor with an open read-write transaction has that committed. Each value reported of it is correct at
+    /// its base, and at the stamp before the event of the commit, or, if there is none, at the newest stamp.
+    /// Both hold in the history as reported by then, and in that of the whole run.
     ///
     /// A receipt of a transaction that an actor began in its session, in the list, is not below any stamp that
-    /// the list showed that actor before. Such a stamp is of a receipt or of the commit of a read-write transaction.
+    /// the list reported to that actor before. Such a stamp is of a receipt or of the commit of a read-write
+    /// transaction.
     ///
-    /// Where each has what is its own, as in a new world, and the list is tidy, each has so after it. Then neither
-    /// a query nor the commit of an open transaction is refused for a snapshot that is gone.
+    /// If each actor and the keeper have exactly their own holds and users, as in a new world, and the list is
+    /// tidy, the same is true afterwards. Then neither a query nor the commit of an open transaction fails for
+    /// a lost snapshot.
     pub fn run(&mut self, alloc: Global, steps: &[Step]) -> Result<Vec<Reply>, AllocError>
         ensures told { IfOk result (λ replies. self.new.told ≡ told_by self.old.told steps.now replies.items) }
         ensures leads { IfOk result (λ replies. AreLed A.next self.old steps.now replies.items self.new) }

@@ -1,4 +1,4 @@
-//! What an actor does with a read-write transaction, each kind of step by itself.
+//! The steps of an actor with a read-write transaction, each kind by itself.
 ghost use Rattle.std.specs.Prelude.{◌≡◌, ℕ, ◌++◌, ◌∷◌, ◌<◌, [], IfErr, None, OnErr, OnOk, length};
 ghost use Rattle.txc_rows.specs.declared.query.Change.{Change};
 ghost use Rattle.txc_app.specs.Eval.{Next};
@@ -16,8 +16,7 @@ ghost use Rattle.txc_world.specs.Writing.{with_rows, FindTransitionRw, HasAskedR
 
 use crate::acting::note;
 use crate::actor::{Actor, OpenCall, OpenRw};
-use crate::asking::answer_told;
-use crate::did::Did;
+use crate::did::{Did, answer_told};
 use crate::ports::Ports;
 use crate::reply::{Refusal, Reply};
 use crate::step::Act;
@@ -30,7 +29,7 @@ use txc_rows::{Change, Query, Row};
 use txc_rw::{MAX_CHANGES, RwCore};
 use txc_tags::Key;
 
-/// Begins a transaction at the newest stamp, which is held, or leaves nothing open.
+/// Begins a transaction at the newest stamp, which is held. If that fails, nothing is open.
 pub(crate) fn begin_rw<A: App, C: Cacheable>(
     alloc: Global,
     ports: &mut Ports<A>,
@@ -58,7 +57,7 @@ pub(crate) fn begin_rw<A: App, C: Cacheable>(
     }
 }
 
-// Starts a call. It asks for nothing yet, and is open even where it has ended at once.
+// Starts a call. It makes no request yet, and is open even if it has ended at once.
 fn start<A: App, C: Cacheable>(
     alloc: Global,
     whole: &Ports<A>,
@@ -80,7 +79,7 @@ fn start<A: App, C: Cacheable>(
     (Actor::Writing(current), Reply::Started)
 }
 
-// Asks the query of the open call at the base, and goes on with what was found.
+// Makes the query of the open call at the base, and continues with the answer.
 fn go_on<A: App, C: Cacheable>(
     alloc: Global,
     ports: &mut Ports<A>,
@@ -110,7 +109,7 @@ fn go_on<A: App, C: Cacheable>(
     (did, turn)
 }
 
-// The call has ended so before any request.
+// Ends the call with this result before any request.
 fn end_call<A: App, C: Cacheable>(
     core: RwCore,
     registry: Registry<A, C>,
@@ -128,7 +127,8 @@ fn end_call<A: App, C: Cacheable>(
     (Actor::Writing(current), Reply::Ended(ended))
 }
 
-// Makes the next request of the open call. A call that ended before any is shown so by its first request.
+// Makes the next request of the open call. If the call ended before any request, its first request reports
+// that.
 fn request<A: App, C: Cacheable>(
     alloc: Global,
     ports: &mut Ports<A>,
@@ -168,7 +168,7 @@ fn request<A: App, C: Cacheable>(
     }
 }
 
-// Asks a query of its own at the base, and takes what was found.
+// Makes a query of the transaction itself at the base, and takes the answer.
 fn find<A: App>(
     alloc: Global,
     ports: &mut Ports<A>,
@@ -192,7 +192,7 @@ fn find<A: App>(
     core.answer(alloc, found)
 }
 
-// Asks the database at the base.
+// Makes the query at the base.
 fn ask<A: App, C: Cacheable>(
     alloc: Global,
     ports: &mut Ports<A>,
@@ -215,7 +215,7 @@ fn ask<A: App, C: Cacheable>(
     }
 }
 
-// Keeps a copy of the change.
+// Buffers a copy of the change.
 fn keep_change(alloc: Global, core: &mut RwCore, change: &Change) -> Result<(), TxnError>
     ensures after { OnOk result (core.new
         ≡ record core.old { changes = core.old.changes ++ change.now ∷ [] }) }
@@ -230,7 +230,7 @@ fn keep_change(alloc: Global, core: &mut RwCore, change: &Change) -> Result<(), 
     core.write(copy)
 }
 
-// Keeps a change until the transaction commits.
+// Buffers a change until the transaction commits.
 fn write<A: App, C: Cacheable>(
     alloc: Global,
     whole: &Ports<A>,
@@ -253,8 +253,7 @@ fn write<A: App, C: Cacheable>(
     }
 }
 
-// Commits the changes, where nothing that was read has changed. A refusal leaves the transaction open, as it
-// was.
+// Commits the changes if nothing that was read has changed. An error leaves the transaction open, as it was.
 fn commit<A: App, C: Cacheable>(
     alloc: Global,
     ports: &mut Ports<A>,
@@ -283,7 +282,7 @@ fn commit<A: App, C: Cacheable>(
     }
 }
 
-// Gives the transaction up, in the middle of a call too.
+// Aborts the transaction, also in the middle of a call.
 fn abort<A: App, C: Cacheable>(whole: &Ports<A>, current: OpenRw<A, C>) -> (Actor<A, C>, Reply)
     requires { IsOpenRw A.next whole.now.database.history current }
     ensures acted { IsActed A.next Act.Abort whole.now whole.now (Actor.Writing current) result.0 result.1 }
@@ -299,7 +298,7 @@ fn abort<A: App, C: Cacheable>(whole: &Ports<A>, current: OpenRw<A, C>) -> (Acto
     )
 }
 
-/// What an actor does that has a read-write transaction open.
+/// Makes a step of an actor with an open read-write transaction.
 pub(crate) fn act_writing<A: App, C: Cacheable>(
     alloc: Global,
     ports: &mut Ports<A>,

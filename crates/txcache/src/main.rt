@@ -1,6 +1,6 @@
-//! The program: `txcache node` reads a script on standard input and prints the replies; `txcache report`
-//! prints counts of them. `txcache world` runs transactions and prints their replies; `txcache batch` runs jobs side
-//! by side and prints what they gave.
+//! The program: `txcache node` reads a script on standard input and prints the replies; `txcache report` prints
+//! counts of them. `txcache world` runs transactions and prints their replies; `txcache batch` runs jobs in
+//! parallel and prints their results.
 #![tactic(auto)]
 
 use clap::error::ErrorKind;
@@ -40,7 +40,7 @@ fn main(rt: HostRuntime) -> ExitCode {
     ExitCode::from(exit_of(&ended))
 }
 
-/// Prints why the arguments give no words.
+/// Prints the error of reading the arguments.
 fn end_by_words(rt: &impl Eprint, error: &WordsError) -> ExitCode {
     match error {
         WordsError::NotText(fault) => end(rt, fault, 2),
@@ -48,7 +48,7 @@ fn end_by_words(rt: &impl Eprint, error: &WordsError) -> ExitCode {
     }
 }
 
-/// Prints why the command line is refused, or the help that it asks for. Help goes to standard output, all else
+/// Prints the error of the command line, or the help that it asks for. Help goes to standard output, all else
 /// to standard error.
 fn end_by_arguments<R: Print + Eprint>(rt: &R, error: &clap::Error) -> ExitCode {
     if error.kind() == ErrorKind::OutOfMemory {
@@ -66,7 +66,7 @@ fn end_by_arguments<R: Print + Eprint>(rt: &R, error: &clap::Error) -> ExitCode 
     ExitCode::from(exit_of(&ended))
 }
 
-/// Prints why the settings are refused.
+/// Prints the error of the settings.
 fn end_by_settings(rt: &impl Eprint, error: &SettingsError) -> ExitCode {
     if let SettingsError::Memory = error {
         return end(rt, "memory", 5);
@@ -75,13 +75,13 @@ fn end_by_settings(rt: &impl Eprint, error: &SettingsError) -> ExitCode {
     ExitCode::from(3)
 }
 
-/// Prints on standard error why the program ends with this status.
+/// Prints the error on standard error, and ends the program with this status.
 fn end(rt: &impl Eprint, text: impl Display + Drop, status: u8) -> ExitCode {
     let _ = rt.eprintln(text);
     ExitCode::from(status)
 }
 
-/// Prints on standard error what is wrong with a malformed line, or why the run ended early.
+/// Prints the fault of a malformed line, or the error of the run, on standard error.
 fn print_fault(rt: &impl Eprint, ended: &Result<Status<OwnFault>, RunFault>) {
     match ended {
         Ok(Status::Malformed(line)) => {

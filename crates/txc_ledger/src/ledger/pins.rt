@@ -1,4 +1,4 @@
-//! What a keeper does with pins, shown by values that only the ledger makes and takes.
+//! The steps of maintenance at pins, each by a linear value that only the ledger makes and consumes.
 ghost use Rattle.std.specs.Prelude.{◌≡◌, ◌+◌, ◌<◌, IfErr, IfOk, Some, length, vec_len};
 ghost use Rattle.txc_cushion.specs.Cushion.{retired};
 ghost use Rattle.txc_cushion.specs.Shared.{CushionMayAnswer};
@@ -14,7 +14,7 @@ use std::sync::Wait;
 use txc_db::{DbError, Naming, Pinned};
 use txc_stamp::Stamp;
 
-/// A pin of the present, which is held. It cannot be let go: [`Ledger::add`] takes it.
+/// A pin of the present, which is held. It is linear: [`Ledger::add`] must consume it.
 pub struct PresentPin<J: Naming> {
     pinned: Pinned,
     of: PhantomData<J>,
@@ -31,8 +31,8 @@ impl<J: Naming> Model for PresentPin<J> {
     ghost invariant = { λ p. p.pinned.front.events ≡ J.database_history };
 }
 
-/// A pin of the present that the pincushion did not take, and that is held. It cannot be let go: [`Ledger::unpin`]
-/// takes it.
+/// A pin of the present that the pincushion did not add, and that is held. It is linear: [`Ledger::unpin`] must
+/// consume it.
 pub struct RefusedPin<J: Naming> {
     pinned: Pinned,
     of: PhantomData<J>,
@@ -49,7 +49,7 @@ impl<J: Naming> Model for RefusedPin<J> {
     ghost invariant = { λ p. p.pinned.front.events ≡ J.database_history };
 }
 
-/// A pin that the pincushion has, with a user. It cannot be let go: [`Ledger::give_back`] takes it.
+/// A pin in the pincushion, with a user. It is linear: [`Ledger::give_back`] must consume it.
 pub struct UsedPin<J: Naming> {
     pinned: Pinned,
     of: PhantomData<J>,
@@ -66,8 +66,8 @@ impl<J: Naming> Model for UsedPin<J> {
     ghost invariant = { λ p. p.pinned.front.events ≡ J.database_history };
 }
 
-/// Pins that the pincushion has no more, and how many of them were taken. They cannot be let go: each is taken
-/// by [`RetiredPins::take`], and then [`RetiredPins::stamps`] tells them.
+/// Pins that were removed from the pincushion, and how many of them were taken. It is linear:
+/// [`RetiredPins::take`] takes each, and then [`RetiredPins::stamps`] must consume it.
 pub struct RetiredPins<J: Naming> {
     stamps: Vec<Stamp>,
     taken: usize,
@@ -82,13 +82,13 @@ impl<J: Naming> Model for RetiredPins<J> {
     ghost view = { λ r. record { stamps = r.stamps.items; taken = r.taken } };
 }
 
-/// A pin that was retired, and is still held. It cannot be let go: [`Ledger::unpin_retired`] takes it.
+/// A pin that was retired, and is still held. It is linear: [`Ledger::unpin_retired`] must consume it.
 pub struct RetiredPin<J: Naming> {
     stamp: Stamp,
     of: PhantomData<J>,
 }
 
-/// The horizon that a vacuum left: no state before it can be read any more. Only a vacuum makes one.
+/// The horizon after a vacuum: no state before it can be read any more. Only a vacuum makes one.
 #[derive(Drop)]
 pub struct Horizon<J: Naming> {
     stamp: Stamp,
@@ -104,7 +104,7 @@ impl<J: Naming> Model for Horizon<J> {
 }
 
 impl<J: Naming> Horizon<J> {
-    /// Its stamp.
+    /// Returns its stamp.
     pub fn stamp(&self) -> Stamp
         ensures { result ≡ self.now }
     {
@@ -113,14 +113,14 @@ impl<J: Naming> Horizon<J> {
 }
 
 impl<J: Naming> RetiredPins<J> {
-    /// How many there are.
+    /// Returns how many pins there are.
     pub fn len(&self) -> usize
         ensures { result ≡ length self.now.stamps }
     {
         self.stamps.len()
     }
 
-    /// The next one.
+    /// Takes the next one.
     pub fn take(&mut self) -> RetiredPin<J>
         requires { self.old.taken < length self.old.stamps }
         ensures { self.new ≡ record self.old { taken = self.old.taken + 1 } }
@@ -133,7 +133,7 @@ impl<J: Naming> RetiredPins<J> {
         }
     }
 
-    /// The stamps, once each was taken.
+    /// Returns the stamps, once each pin was taken.
     pub fn stamps(self) -> Vec<Stamp>
         requires { self.taken ≡ length self.stamps }
         ensures { result.items ≡ self.stamps }
@@ -148,7 +148,8 @@ impl<J: Naming> RetiredPins<J> {
 }
 
 impl<J: Naming> Ledger<J> {
-    /// Appends a pin of the moment `now`, and holds its stamp.
+    /// Appends a pin of the wall-clock time `now`, in milliseconds, and holds its stamp. Fails as
+    /// [`Database::pin`](txc_db::Database::pin) does.
     pub fn pin(&self, rt: &impl Wait, alloc: Global, now: u64) -> Result<PresentPin<J>, DbError>
         ensures row { IfOk result (λ pin. pin.front.events ≡ J.database_history) }
         ensures event { IfOk result (λ pin. event_at pin.front.history pin.stamp ≡ Some (pin_event now)) }
@@ -161,7 +162,7 @@ impl<J: Naming> Ledger<J> {
         })
     }
 
-    /// Gives the pin to the pincushion, with one user.
+    /// Adds the pin to the pincushion, with one user. If that fails, the pin is returned, still held.
     pub fn add(&self, rt: &impl Wait, pin: PresentPin<J>) -> Result<UsedPin<J>, RefusedPin<J>>
         ensures added { IfOk result (λ used. used ≡ pin) }
         ensures not_added { IfErr result (λ refused. refused ≡ pin) }
@@ -179,7 +180,7 @@ impl<J: Naming> Ledger<J> {
         }
     }
 
-    /// Takes the user of the pin away, which stays in the pincushion.
+    /// Removes the user of the pin, which stays in the pincushion.
     pub fn give_back(&self, rt: &impl Wait, used: UsedPin<J>) -> Pinned
         ensures pin { result ≡ used }
         ensures row { result.front.events ≡ J.database_history }
@@ -189,7 +190,7 @@ impl<J: Naming> Ledger<J> {
         pinned
     }
 
-    /// Takes the hold of the pin away.
+    /// Removes the hold of the pin.
     pub fn unpin(&self, rt: &impl Wait, pin: RefusedPin<J>) -> Pinned
         ensures pin { result ≡ pin }
         ensures row { result.front.events ≡ J.database_history }
@@ -199,7 +200,8 @@ impl<J: Naming> Ledger<J> {
         pinned
     }
 
-    /// Retires the pins that no transaction may use and that are too old.
+    /// Retires the pins that no transaction uses and that are more than `age` before `now`, both in
+    /// milliseconds. Fails only if memory cannot be allocated.
     pub fn retire(
         &self,
         rt: &impl Wait,
@@ -219,13 +221,14 @@ impl<J: Naming> Ledger<J> {
         })
     }
 
-    /// Takes the hold of a retired pin away.
+    /// Removes the hold of a retired pin.
     pub fn unpin_retired(&self, rt: &impl Wait, pin: RetiredPin<J>) {
         let RetiredPin { stamp, of: _ } = pin;
         let _ = self.database.unpin(rt, stamp);
     }
 
-    /// Makes the horizon the least held stamp, or the newest where none is held.
+    /// Moves the horizon to the least held stamp, or to the newest if none is held. Fails, and changes nothing,
+    /// if the store fails or the database is broken.
     pub fn vacuum(&self, rt: &impl Wait) -> Result<Horizon<J>, DbError>
         ensures answer { IfOk result (MayAnswer J.database_history (λ d horizon. horizon ≡ next_horizon d)) }
         ensures refused { IfErr result (MayRefuse J.database_history IsVacuumRefused) }

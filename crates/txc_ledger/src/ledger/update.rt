@@ -21,7 +21,7 @@ use txc_definition::{Definition, Function};
 use txc_registry::Registry;
 use txc_rw::{Committed, RwTxn};
 
-/// A read-write transaction, which is committed by a committer, or given up.
+/// A read-write transaction, which a committer commits, or which is aborted.
 pub(crate) struct Update<'a, J: Naming, A: App, D: Definition> {
     txn: RwTxn<'a, J, A, Function<D>>,
 }
@@ -35,7 +35,7 @@ impl<'a, J: Naming, A: App, D: Definition> Model for Update<'a, J, A, D> {
 }
 
 impl<J: Naming> Ledger<J> {
-    /// Begins an update at the newest stamp, which the committer counts. A refusal returns the registry.
+    /// Begins an update at the newest stamp, which the committer counts. An error returns the registry.
     pub(crate) fn update<'a, A: App, D: Definition>(
         &'a self,
         rt: &impl Wait,
@@ -72,7 +72,7 @@ impl<'a, J: Naming, A: App, D: Definition> Update<'a, J, A, D> {
         change.make(rt, alloc, &mut self.txn)
     }
 
-    /// Commits it, as [`RwTxn::commit`] does. The committer has committed once more, unless it is refused.
+    /// Commits it, as [`RwTxn::commit`] does. The committer counts the commit if it succeeds.
     pub(crate) fn commit(
         self,
         rt: &impl Wait,
@@ -107,7 +107,7 @@ impl<'a, J: Naming, A: App, D: Definition> Update<'a, J, A, D> {
         }
     }
 
-    /// Gives it up, and returns the registry. It takes no memory.
+    /// Aborts it, and returns the registry. Does not allocate.
     pub(crate) fn abort(self, rt: &impl Wait) -> Registry<A, Function<D>>
         ensures answer { result ≡ self.entry.objects }
         ensures idle { AllIdle result }

@@ -13,15 +13,15 @@ use crate::text::read::read_word;
 use std::alloc::{AllocError, Global};
 use std::fmt;
 
-/// The text is not that of a key.
+/// The text is not a key's.
 #[derive(Debug, Clone, Copy, PartialEq, Eq, thiserror::Error)]
-#[error("no text of a key: it goes wrong after {at} bytes")]
+#[error("the text is not a key: it is wrong after {at} bytes")]
 pub struct BadKey {
     /// The length in bytes of the longest prefix of the text that is also a prefix of some key's text.
     pub at: usize,
 }
 
-/// The arguments, where nothing is left of the text.
+/// Returns the arguments if the rest of the text is empty.
 fn close<'a>(args: Arguments, rest: &'a [u8]) -> Result<Arguments, &'a [u8]>
     ensures answer { IfOk result (λ a. (a ≡ args) × (rest.now ≡ [])) }
     ensures refused { IfErr result (λ r. (r.now ≡ rest.now) × (0 < length rest.now)) }
@@ -32,7 +32,7 @@ fn close<'a>(args: Arguments, rest: &'a [u8]) -> Result<Arguments, &'a [u8]>
     Ok(args)
 }
 
-/// The arguments that the text after `(` is, up to its end.
+/// Reads the arguments from the text after `(`, to its end.
 fn read_arguments(text: &[u8]) -> Result<Arguments, &[u8]>
     ensures answer { IfOk result (IsTextOf AreArguments closed_text text.now) }
     ensures refused { IfErr result
@@ -44,7 +44,7 @@ fn read_arguments(text: &[u8]) -> Result<Arguments, &[u8]>
     read_some(text)
 }
 
-/// The arguments, one at least, that the text after `(` is, up to its end.
+/// Reads the arguments, at least one, from the text after `(`, to its end.
 fn read_some(text: &[u8]) -> Result<Arguments, &[u8]>
     ensures answer { IfOk result (IsTextOf AreArguments closed_text text.now) }
     ensures refused { IfErr result (λ rest. IsRefused AreSome text.now rest.now) }
@@ -64,7 +64,7 @@ fn read_some(text: &[u8]) -> Result<Arguments, &[u8]>
     }
 }
 
-/// The key that the whole text is.
+/// Reads the key that the whole text is.
 fn read_whole(text: &[u8]) -> Result<Key, &[u8]>
     ensures answer { IfOk result (IsTextOf IsKeyInRange key_text text.now) }
     ensures refused { IfErr result (λ rest. IsRefused (IsText IsKeyInRange key_text) text.now rest.now) }
@@ -95,7 +95,8 @@ impl fmt::Display for Key {
 }
 
 impl Key {
-    /// The key that the whole text is: `f3(1,2)`. It takes no memory.
+    /// Reads the key that the whole text is: `f3(1,2)`. Fails if the text is not in the grammar. Does not
+    /// allocate.
     pub fn read(text: &[u8]) -> Result<Key, BadKey>
         ensures answer { IfOk result (IsTextOf IsKeyInRange key_text text.now) }
         ensures only_if { IsOk result ↔ IsText IsKeyInRange key_text text.now }
@@ -110,8 +111,8 @@ impl Key {
         }
     }
 
-    /// The key's text. [`Key::read`] gives the key back, and reads it from no other text. It is refused
-    /// only where memory was.
+    /// Returns the key's text. [`Key::read`] reads this key from it, and from no other text. Fails only if
+    /// memory cannot be allocated.
     pub fn write(&self, alloc: Global) -> Result<String, AllocError>
         ensures { IfOk result (λ text. IsTextOf IsKeyInRange key_text (string_bytes text) self.now) }
     {

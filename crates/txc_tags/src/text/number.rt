@@ -17,7 +17,7 @@ fn is_digit(byte: u8) -> bool
     byte >= b'0' && byte <= b'9'
 }
 
-/// The number with one more digit. `None` where no number of at most `most` goes on so.
+/// Returns the number with one more digit, or `None` if no number of at most `most` begins so.
 #[inline]
 fn push_digit(number: Option<u64>, byte: u8, most: u64) -> Option<u64>
     requires { IfSome number (λ n. n ≤ most) }
@@ -53,7 +53,7 @@ fn push_digit(number: Option<u64>, byte: u8, most: u64) -> Option<u64>
     }
 }
 
-/// The number of at most `most` that stands at the text's beginning.
+/// Reads the number of at most `most` with which the text begins.
 pub(crate) fn read_digits<'a>(text: &'a [u8], most: u64) -> Result<(u64, &'a [u8]), &'a [u8]>
     ensures answer { IfOk result (λ r.
         (r.0 ≤ most) × Reads (IsNumber most) text.now (decimal r.0) r.1.now) }
@@ -84,7 +84,7 @@ fn end_digits<'a>(number: Option<u64>, rest: &'a [u8]) -> Result<(u64, &'a [u8])
     }
 }
 
-/// The number of at most `most` after the word.
+/// Reads the number of at most `most` after the word.
 pub(crate) fn read_numbered<'a>(
     text: &'a [u8],
     word: &[u8],
@@ -98,7 +98,8 @@ pub(crate) fn read_numbered<'a>(
     read_digits(rest, most)
 }
 
-/// The number that the whole text is, where it is at most `most`.
+/// Reads the number that the whole text is. Returns `None` if the text is not a number, or one greater than
+/// `most`.
 pub fn read_number(text: &[u8], most: u64) -> Option<u64>
     ensures answer { IfSome result (IsTextOf (λ n. n ≤ most) decimal text.now) }
     ensures refused { IfNone result (IsText (λ n. n ≤ most) decimal text.now → ⊥) }

@@ -1,4 +1,4 @@
-//! That numbers are in range, for the contracts of what writes them.
+//! Lemmas that numbers are in range, for the contracts of writers.
 ghost use Rattle.std.specs.Prelude.{◌≤◌, All};
 ghost use Rattle.txc_tags.specs.TextKey.{IsKeyInRange};
 ghost use Rattle.txc_tags.specs.TextSet.{AreTagsInRange};
@@ -9,7 +9,7 @@ use crate::key::Key;
 use crate::set::TagSet;
 use crate::tag::{Rows, Tag};
 
-/// Every tag is one of the grammar's.
+/// Each tag is in the range of the grammar.
 pub(crate) fn tag_is_in_range(tag: Tag)
     ensures { IsTagInRange tag }
 {
@@ -21,7 +21,7 @@ pub(crate) fn tag_is_in_range(tag: Tag)
     }
 }
 
-/// Every set's tags are of the grammar.
+/// The tags of each set are in the range of the grammar.
 pub(crate) fn set_is_in_range(set: &TagSet)
     ensures { AreTagsInRange set.now }
 {
@@ -34,7 +34,7 @@ fn arguments_are_in_range(args: &[u32])
     ensures { All (λ arg. arg ≤ LAST_NUMBER) args.now }
 {}
 
-/// Every key is one of the grammar's.
+/// Each key is in the range of the grammar.
 pub(crate) fn key_is_in_range(key: &Key)
     ensures { IsKeyInRange key.now }
 {

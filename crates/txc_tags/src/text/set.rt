@@ -1,4 +1,4 @@
-//! Texts of sets of tags: `-`, `t1:id=7,t1:grp=2,t2:?`; either spelling of a tag may stand in them.
+//! Texts of sets of tags: `-`, `t1:id=7,t1:grp=2,t2:?`. Each tag may have either spelling.
 ghost use Rattle.std.specs.Prelude.{◌≡◌, ℕ, ◌∷◌, List, None, codes, IsOk, IfOk, IfErr, IfNone, string_bytes};
 ghost use Rattle.txc_tags.specs.declared.tag.Tag.{Tag};
 ghost use Rattle.txc_tags.specs.Tags.{with_tag, IsCanonical};
@@ -14,18 +14,18 @@ use crate::text::tag::{BadTag, read_tag};
 use std::alloc::{AllocError, Global};
 use std::fmt;
 
-/// Why no set of tags was read.
+/// Errors of reading a set of tags.
 #[derive(Debug, Drop, thiserror::Error)]
 pub enum SetError {
-    /// The text is not that of a set of tags.
+    /// The text is not a set of tags.
     #[error(transparent)]
     BadTag(BadTag),
-    /// A growth was refused.
+    /// Memory cannot be allocated.
     #[error(transparent)]
     Memory(AllocError),
 }
 
-/// The refusal of a text that goes wrong where the rest begins.
+/// Makes the error of a text that goes wrong where the rest begins.
 fn bad_tag(text: &[u8], rest: &[u8]) -> SetError
     requires { IsRefused (IsText AreSpeltInRange spelt_tags_text) text.now rest.now }
     ensures { IsSetRefusal text.now result }
@@ -35,7 +35,7 @@ fn bad_tag(text: &[u8], rest: &[u8]) -> SetError
     })
 }
 
-/// Adds the tag, where memory was not refused before. Returns whether it is now.
+/// Adds the tag, unless an allocation failed before. Returns the failed allocation, if there is one by now.
 fn add_unless(refused: Option<AllocError>, set: &mut TagSet, tag: Tag) -> Option<AllocError>
     ensures { IfNone result ((refused ≡ None) × (set.new ≡ with_tag tag set.old)) }
 {
@@ -48,8 +48,8 @@ fn add_unless(refused: Option<AllocError>, set: &mut TagSet, tag: Tag) -> Option
     }
 }
 
-/// The set of the tags of a text that does not begin with a dash, made while the text is read. Where memory
-/// is refused the text is read to its end all the same, so that one outside the grammar is refused as such.
+/// Reads the set of the tags of a text that does not begin with a dash. If an allocation fails, the text is
+/// still read to its end, so that a text outside the grammar is reported as such.
 fn read_tags(alloc: Global, text: &[u8]) -> Result<TagSet, SetError>
     requires { (rest : List ℕ) → text.now ≡ 45 ∷ rest → ⊥ }
     ensures answer { IfOk result (IsSetOfText text.now) }
@@ -96,9 +96,9 @@ impl fmt::Display for TagSet {
 }
 
 impl TagSet {
-    /// The set that the whole text is: `-` for the empty set, or what adding the text's tags one after the
-    /// other gives. A text that is none is refused as [`SetError::BadTag`], whatever memory is left; `-`
-    /// takes none.
+    /// Reads the set that the whole text is: `-` for the empty set, or the text's tags, added one after the
+    /// other. A text outside the grammar fails as [`SetError::BadTag`], whatever memory is left; `-` allocates
+    /// nothing.
     pub fn read(alloc: Global, text: &[u8]) -> Result<TagSet, SetError>
         ensures answer { IfOk result (IsSetOfText text.now) }
         ensures refused { IfErr result (IsSetRefusal text.now) }
@@ -117,8 +117,8 @@ impl TagSet {
         }
     }
 
-    /// The set's one spelling: by table, in a table the wildcard alone, or ids by number and then groups by
-    /// number. [`TagSet::read`] gives the set back. It is refused only where memory was.
+    /// Returns the set's one text: by table, in a table the wildcard only, or ids by number and then groups by
+    /// number. [`TagSet::read`] reads this set from it. Fails only if memory cannot be allocated.
     pub fn write(&self, alloc: Global) -> Result<String, AllocError>
         ensures { IfOk result
             (λ text. IsTextOf AreTagsInRange tags_text (string_bytes text) self.now) }

@@ -13,16 +13,16 @@ use crate::text::read::{further, read_word};
 use std::alloc::{AllocError, Global};
 use std::fmt;
 
-/// The text is not that of a tag, or of a set of tags.
+/// The text is not a tag's, or not a set's.
 #[derive(Debug, Clone, Copy, PartialEq, Eq, thiserror::Error)]
-#[error("no text of a tag: it goes wrong after {at} bytes")]
+#[error("the text is not a tag: it is wrong after {at} bytes")]
 pub struct BadTag {
     /// The length in bytes of the longest prefix of the text that is also a prefix of some text of the
     /// grammar read.
     pub at: usize,
 }
 
-/// A spelling of tags: what stands before the table's number, and what stands after it.
+/// A spelling of tags: the bytes before and after the table's number.
 #[derive(Clone, Copy, Debug)]
 pub(crate) enum Spelling {
     /// `t1:?`, `t1:id=7` and `t1:grp=2`.
@@ -69,8 +69,8 @@ impl Spelling {
     }
 }
 
-/// The rows after a table's number.
-// Inlined at each spelling, so that its words are constants there.
+/// Reads the rows after a table's number.
+// It is inlined for each spelling, so that its words are constants there.
 #[inline(always)]
 fn read_rows<'a>(text: &'a [u8], spelling: Spelling) -> Result<(Rows, &'a [u8]), &'a [u8]>
     ensures answer { IfOk result (λ r. AreRowsInRange r.0
@@ -92,7 +92,7 @@ fn read_rows<'a>(text: &'a [u8], spelling: Spelling) -> Result<(Rows, &'a [u8]),
     Err(further(all, further(id, group)))
 }
 
-/// The tag in that spelling at the text's beginning.
+/// Reads the tag in that spelling with which the text begins.
 #[inline(always)]
 fn read_spelled<'a>(text: &'a [u8], spelling: Spelling) -> Result<(Tag, &'a [u8]), &'a [u8]>
     ensures answer { IfOk result (λ r. IsTagInRange r.0
@@ -105,7 +105,7 @@ fn read_spelled<'a>(text: &'a [u8], spelling: Spelling) -> Result<(Tag, &'a [u8]
     Ok((Tag { table, rows }, rest))
 }
 
-/// The tag at the text's beginning, in either spelling.
+/// Reads the tag, in either spelling, with which the text begins.
 pub(crate) fn read_tag<'a>(text: &'a [u8]) -> Result<(Tag, &'a [u8]), &'a [u8]>
     ensures answer { IfOk result (λ r. (s : Spelling) × IsTagInRange r.0
         × Reads (IsText IsSpeltInRange spelt_text) text.now (spelled s r.0) r.1.now) }
@@ -122,7 +122,7 @@ pub(crate) fn read_tag<'a>(text: &'a [u8]) -> Result<(Tag, &'a [u8]), &'a [u8]>
     Err(further(usual, slashed))
 }
 
-/// The tag that the whole text is.
+/// Reads the tag that the whole text is.
 fn read_whole(text: &[u8]) -> Result<Tag, &[u8]>
     ensures answer { IfOk result (IsTextOfTag text.now) }
     ensures refused { IfErr result (λ rest. IsRefused (IsText IsSpeltInRange spelt_text) text.now rest.now) }
@@ -157,8 +157,8 @@ impl fmt::Display for Tag {
 impl Tag {
     ghost use Rattle.txc_tags.specs.declared.tag.Tag.{Tag};
 
-    /// The tag that the whole text is: `t1:?`, `t1:id=7` or `t1:grp=2`, or `1/?`, `1/id/7` or `1/grp/2`. It
-    /// takes no memory.
+    /// Reads the tag that the whole text is: `t1:?`, `t1:id=7` or `t1:grp=2`, or `1/?`, `1/id/7` or `1/grp/2`.
+    /// Fails if the text is not in the grammar. Does not allocate.
     pub fn read(text: &[u8]) -> Result<Tag, BadTag>
         ensures answer { IfOk result (IsTextOfTag text.now) }
         ensures only_if { IsOk result ↔ IsText IsSpeltInRange spelt_text text.now }
@@ -173,7 +173,8 @@ impl Tag {
         }
     }
 
-    /// The tag's text: `t1:id=7`, and never `1/id/7`. [`Tag::read`] gives the tag back. It is refused only where memory was.
+    /// Returns the tag's text: `t1:id=7`, and never `1/id/7`. [`Tag::read`] reads this tag from it. Fails only
+    /// if memory cannot be allocated.
     pub fn write(&self, alloc: Global) -> Result<String, AllocError>
         ensures { IfOk result (λ text. IsTextOf IsTagInRange tag_text (string_bytes text) self.now) }
     {

@@ -1,4 +1,4 @@
-use Rattle.std.proofs.Common.{◌≡◌, ◌<◌, ◌+◌, ◌++◌, ◌∷◌, Some, Err, is_none, false, length, map, filter, sym, ap, subst, ◌∙◌, append-nil, rules, arith}
+use Rattle.std.proofs.Common.{◌≡◌, ◌+◌, ◌++◌, ◌∷◌, Some, Err, is_none, false, map, filter, sym, ap, ◌∙◌, append-nil, rules, arith}
 use Rattle.std.specs.Map.{lookup}
 use Rattle.std.proofs.lemmas.List.Sorted.{length_permutation}
 use Rattle.txc_slots.specs.Slots.{is_key, held}

@@ -1,5 +1,0 @@
-use Rattle.txc_db.specs.Refusals.{NoneMatches}
-use Rattle.txc_db.proofs.commit.first_conflict.Given as goal
-
-abbrev pub invariant-loop-at : goal.invariant-loop-at
-invariant-loop-at l = NoneMatches l.told.history l.base l.at l.read

@@ -1,6 +1,0 @@
-use Rattle.std.proofs.Common.{◌≡◌, ℕ, ◌<◌, get_or}
-use Rattle.txc_world.specs.Keeping.{stamps_of_pins}
-use Rattle.txc_world.proofs.keeper.place_of.Given as goal
-
-abbrev pub invariant-loop-at : goal.invariant-loop-at
-invariant-loop-at l = (k : ℕ) → k < l.at → get_or (stamps_of_pins l.spare) k 0 ≡ l.stamp → ⊥
