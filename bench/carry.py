@@ -21,7 +21,7 @@ sys.path.insert(0, f"{os.path.dirname(BENCH)}/scripts")
 import unproved  # noqa: E402
 import with_tests  # noqa: E402
 
-LIBRARIES = "txc_stamp txc_tags txc_rows txc_stream txc_db txc_carry anyhow"
+LIBRARIES = "txc_stamp txc_tags txc_rows txc_stream txc_db txc_db_carry anyhow"
 ROUNDS = 5
 
 

@@ -21,15 +21,15 @@ trap 'exit 130' INT TERM
 git clone --quiet . "$room/repository"
 source=$PWD/bench/client_bench
 bench=$room/repository/crates/client_bench
-used='txc_stamp txc_tags txc_node txc_rows txc_stream txc_db txc_permits txc_cushion txc_app txc_shared txc_registry
-    txc_functions txc_ports txc_txn txc_client'
+used='txc_stamp txc_tags txc_node txc_rows txc_stream txc_db txc_call_permits txc_cushion txc_app txc_shared txc_call_registry
+    txcache_functions txc_txn_ports txc_txn txc_txn_client'
 (cd "$source" && find src proofs -type f) | while read -r file; do
     mkdir -p "$bench/$(dirname "$file")"
     cp "$source/$file" "$bench/${file%.in}"
 done
 echo "client_bench: anyhow thiserror $(echo $used)" >>"$room/repository/crates.txt"
 # what earlier runs kept of the libraries spares their proofs
-for crate in $used txc_validity txc_pinset txc_definition txc_call; do
+for crate in $used txc_validity txc_pinset txc_call_definition txc_call; do
     if [ -d "crates/$crate/out" ]; then cp -a "crates/$crate/out" "$room/repository/crates/$crate/"; fi
 done
 # with no line to obey the program ends at once

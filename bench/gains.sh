@@ -18,8 +18,8 @@ trap 'exit 130' INT TERM
 git clone --quiet . "$room/repository"
 source=$PWD/bench/gains_bench
 bench=$room/repository/crates/gains_bench
-used='txc_stamp txc_tags txc_node txc_rows txc_stream txc_db txc_permits txc_cushion txc_app txc_shared txc_registry
-    txc_definition txc_ports txc_txn txc_client'
+used='txc_stamp txc_tags txc_node txc_rows txc_stream txc_db txc_call_permits txc_cushion txc_app txc_shared txc_call_registry
+    txc_call_definition txc_txn_ports txc_txn txc_txn_client'
 (cd "$source" && find src specs proofs -type f) | while read -r file; do
     mkdir -p "$bench/$(dirname "$file")"
     cp "$source/$file" "$bench/${file%.in}"

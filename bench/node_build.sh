@@ -14,10 +14,10 @@ crate=$room/repository/crates/node_lines
 mkdir -p "$crate/src"
 cp bench/node_lines/src/main.rt.in "$crate/src/main.rt"
 # a later run is told of which type the faults are that lines of a node alone have: of none
-if grep -q 'fn run<F' "$room/repository/crates/txc_run/src/running.rt"; then
+if grep -q 'fn run<F' "$room/repository/crates/txc_script_node/src/running.rt"; then
     sed -i 's/run(alloc/run::<std::convert::Infallible, _, _>(alloc/' "$crate/src/main.rt"
 fi
-echo 'node_lines: txc_run txc_settings anyhow' >>"$room/repository/crates.txt"
+echo 'node_lines: txc_script_node txc_script_settings anyhow' >>"$room/repository/crates.txt"
 (cd "$crate" && rt run -- node --settings 'capacity = 10' </dev/null) >"$room/said" 2>&1 || {
     cat "$room/said" >&2
     echo 'node_build.sh: the program was not proved or not run' >&2

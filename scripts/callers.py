@@ -7,7 +7,7 @@ import subprocess
 
 ROOT = pathlib.Path(__file__).resolve().parent.parent
 # The library, and the crates below it of which no program has use.
-CRATES = ("txc_crossing", "txc_told", "txc_caller", "txc_c")
+CRATES = ("txc_c_types", "txc_call_ghosts", "txc_caller", "txc_c")
 # The hash of the layer over which `make test-all` passed last.
 PASSED = ROOT / "tests/test-all.passed"
 

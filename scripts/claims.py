@@ -212,7 +212,7 @@ def layered():
 def promised():
     """Each library that other crates use has a row in PROMISE."""
     document = ROOT / "docs/promise.in.md"
-    rows = re.findall(r"^\| (`txc_.*?) \|", document.read_text(), re.M)
+    rows = re.findall(r"^\| (`txc.*?) \|", document.read_text(), re.M)
     used = {it for below in sources.used().values() for it in below}
     for crate in sources.crates():
         if crate in used and not any(f"`{crate}`" in it for it in rows):
@@ -231,10 +231,10 @@ def help_shown():
 
 
 def settings():
-    """The settings in SCRIPTS have the ranges and the defaults of txc_settings."""
-    document, crate = ROOT / "docs/SCRIPTS.md", ROOT / "crates/txc_settings/src"
+    """The settings in SCRIPTS have the ranges and the defaults of txc_script_settings."""
+    document, crate = ROOT / "docs/SCRIPTS.md", ROOT / "crates/txc_script_settings/src"
     limits = {}
-    for path in [*ROOT.glob("crates/txc_settings/src/*.rt"), *ROOT.glob("crates/txc_node/src/*.rt")]:
+    for path in [*ROOT.glob("crates/txc_script_settings/src/*.rt"), *ROOT.glob("crates/txc_node/src/*.rt")]:
         for name, value in re.findall(r"^pub const (MAX_\w+): \w+ = ([\d_]+);", path.read_text(), re.M):
             limits[name] = int(value)
     ranges = re.findall(r'"(\w+)" => Some\(\((\d), (MAX_\w+)', (crate / "keys.rt").read_text())
@@ -243,7 +243,7 @@ def settings():
     rows = re.findall(r"^\| `(\w+)` \|[^|]*\| (\d+ to \d+) \| (\d+) \|$", document.read_text(), re.M)
     shown = {key: (reach, default) for key, reach, default in rows}
     if shown != wanted:
-        yield document, f"has other settings than txc_settings: {dict(shown.items() ^ wanted.items())}"
+        yield document, f"has other settings than txc_script_settings: {dict(shown.items() ^ wanted.items())}"
 
 
 def examples():

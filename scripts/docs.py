@@ -22,13 +22,14 @@ In files that git keeps:
   EMBEDDING.md         its code, from tests/txc_tests/src/first.rt.in, the shop and the auction
 
 usage: docs.py [--check]      --check writes docs/out/ alone, and ends with 1 if a file is not what would be written, or if what
-                              the documents claim is not so (scripts/claims.py). With 2, also without it, if a file of wrong bodies
+                              the documents claim is not so (scripts/claims.py), or if a name breaks
+                              a rule of the house (scripts/house.py). With 2, also without it, if a file of wrong bodies
                               has a fault (scripts/wrong_bodies.py)
 """
 import re, shutil, sys
 from pathlib import Path
 
-import claims, cpu, figures, lines, pages, pictures, promise, run, sources, wrong_bodies
+import claims, cpu, house, figures, lines, pages, pictures, promise, run, sources, wrong_bodies
 from sources import ROOT, crates
 
 LISTS = """# All wrong bodies, by crate
@@ -312,7 +313,7 @@ def main():
         if is_check:
             sys.exit(f"{path.relative_to(ROOT)} is made no more: run `make docs`")
         path.unlink()
-    found = claims.faults()
+    found = claims.faults() + house.faults()
     print("".join(f"{it}\n" for it in found), end="", file=sys.stderr)
     sys.exit(int(is_check and bool(found)))
 

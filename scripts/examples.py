@@ -14,7 +14,7 @@ FOR_READERS = {"a_page_beside_a_commit", "a_session_line_by_line"}
 
 HEAD = """//! The scripts of examples/ with their output: written by scripts/examples.py, which the gate compares.
 
-use txc_settings::Mode;
+use txc_script_settings::Mode;
 
 /// Each example: its name, a mode, its script, its output in that mode, and the status of the program after it.
 pub const EXAMPLES: [(&str, Mode, &str, &str, u8); %d] = [

@@ -7,7 +7,7 @@ import re
 
 ROOT = os.path.dirname(os.path.dirname(os.path.abspath(__file__)))
 # The crates that declare what crosses.
-CRATES = ("txc_crossing", "txc_c")
+CRATES = ("txc_c_types", "txc_c")
 HEADER = f"{ROOT}/bindings/c/txc.h"
 
 EXPORT = re.compile(r'^#\[unsafe\(no_mangle\)\]\npub extern "C" fn (\w+)\(([^)]*)\) -> (\w+)', re.M)
@@ -45,7 +45,7 @@ def structs():
 
 def numbers():
     """The numbers that calls return, and the limits."""
-    with open(f"{ROOT}/crates/txc_crossing/src/numbers.rt", encoding="utf-8") as it:
+    with open(f"{ROOT}/crates/txc_c_types/src/numbers.rt", encoding="utf-8") as it:
         found = {name: int(value) for name, value in CONST.findall(it.read())}
     for name, crate in LIMITS.items():
         found[name] = next(int(value) for it in texts(crate) for const, value in CONST.findall(it) if const == OTHER_NAMES.get(name, name))

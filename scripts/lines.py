@@ -14,19 +14,19 @@ KIND_OF = {word: kind for kind, words in KINDS.items() for word in words.split()
 
 def node_forms():
     """Each line of mode node, by its name: as it is written, in each way."""
-    source = (ROOT / "crates/txc_run/specs/Lines.antt").read_text()
+    source = (ROOT / "crates/txc_script_node/specs/Lines.antt").read_text()
     found = re.findall(r'\n-- ([A-Z]+(?: \w+)*).*\nabbrev pub \w+ : LineForm.*\n[^\n]*\{\s+name = codes "(\w+)";\s+kinds = ((?:\w+ ∷ )+)\[\]', source)
     forms = {}
     for words, name, kinds in found:
         if [KIND_OF[it] for it in words.split()] != kinds.split(" ∷ ")[:-1]:
-            raise SystemExit(f"crates/txc_run/specs/Lines.antt: the words of `{name}` are not of the kinds of their names")
+            raise SystemExit(f"crates/txc_script_node/specs/Lines.antt: the words of `{name}` are not of the kinds of their names")
         forms[name] = [f"{name} {words}"] + [f"{name} {words}".replace("still", "closed")] * ("still" in words.split())
     return forms
 
 
 def world_forms():
     """Each line of mode world, by its name, with what ends it, if anything does; and the forms of a query and of a change."""
-    source, names = ((ROOT / f"crates/{it}.antt").read_text() for it in ("txc_words/specs/Faults", "txc_words/specs/Names"))
+    source, names = ((ROOT / f"crates/{it}.antt").read_text() for it in ("txc_script_lines/specs/Faults", "txc_script_lines/specs/Names"))
     words = (ROOT / "crates/txc_script/specs/Lines.antt").read_text()
     ends = {"QUERY": [], "CHANGE": []}
     rows = re.findall(r"\nparts_(\w+) (?:\w+\.)?(\w+) =\s+(.*)", source)
@@ -47,7 +47,7 @@ def world_forms():
 
 def job_form():
     """The line of a job, whose last word may stand again."""
-    source = (ROOT / "crates/txc_batch/specs/Orders.antt").read_text()
+    source = (ROOT / "crates/txc_script_batch/specs/Orders.antt").read_text()
     moments, key = re.search(r"kinds_for \((.*) ∷ \[\]\) word_kinds\.(\w+) words", source).groups()
     return [*moments.split(" ∷ "), key]
 

@@ -10,7 +10,7 @@ OUT = ROOT / "docs/out"
 FOLDER = OUT / "crates"
 HEAD = "\n[How to read it](README.md#a-page).\n"
 # The crates whose pages show a caller, which is a test.
-CALLERS = {"txc_node": "base", "txc_db": "db", "txc_client": "client/clients", "txc_batch": "batch/batch"}
+CALLERS = {"txc_node": "base", "txc_db": "db", "txc_txn_client": "client/clients", "txc_script_batch": "batch/batch"}
 
 
 def anchor_of(call):

@@ -327,8 +327,8 @@ PROMISES = (("1. a receipt explains its answers", "ABC"), ("2. a call returns it
             ("5. a write commits what it read", "BC"), ("6. a node is a versioned cache", "C"), ("7. a client's calls are recorded once", "BC"), ("8. every interleaving of steps", "ABC"),
             ("9. functions that the caller computes", "ABC"), ("10. a service's own database", "ABC"))
 GROUPS = (("A", "Explains, IsFresh,\nIsAllowed, AreConsistent", "what a receipt is"), ("B", "eval, answer", "what functions and\nqueries return uncached"), ("C", "state_at, History", "the events, and the\nrows at a stamp"))
-CRATES = (("transactions", "txc_txn, txc_client,\ntxc_rw", "ABC"), ("callers, and C", "txc_caller, txc_c", "ABC"), ("own database", "txc_external,\ntxc_external_receipts", "ABC"), ("interleavings", "txc_world", "ABC"),
-          ("sites", "txc_visits, txc_pages", "AC"), ("calls", "txc_app, txc_call,\ntxc_registry", "BC"), ("database, pins", "txc_db, txc_rows,\ntxc_cushion", "AC"), ("nodes", "txc_node, txc_shared", "C"))
+CRATES = (("transactions", "txc_txn, txc_txn_client,\ntxc_txn_rw", "ABC"), ("callers, and C", "txc_caller, txc_c", "ABC"), ("own database", "txc_app_external,\ntxc_txn_external", "ABC"), ("interleavings", "txc_world", "ABC"),
+          ("sites", "txc_site_workers, txc_site_pages", "AC"), ("calls", "txc_app, txc_call,\ntxc_call_registry", "BC"), ("database, pins", "txc_db, txc_rows,\ntxc_cushion", "AC"), ("nodes", "txc_node, txc_shared", "C"))
 
 
 def proof() -> Picture:

@@ -5,7 +5,7 @@ import os
 import re
 import sys
 
-KEYS = f"{os.path.dirname(os.path.abspath(__file__))}/../crates/txc_settings/src/keys.rt"
+KEYS = f"{os.path.dirname(os.path.abspath(__file__))}/../crates/txc_script_settings/src/keys.rt"
 
 # The modes of a script by the ending of its file, the usual one first.
 MODES = {".txc": ["node", "report"], ".txw": ["world"], ".txb": ["batch"]}

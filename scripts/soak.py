@@ -21,8 +21,8 @@ import unproved
 import with_tests
 
 ROOT = with_tests.ROOT
-LIBRARIES = """txc_stamp txc_tags txc_node txc_rows txc_stream txc_db txc_app txc_permits txc_cushion txc_shared txc_registry txc_functions
-    txc_ports txc_txn txc_client txc_players anyhow"""
+LIBRARIES = """txc_stamp txc_tags txc_node txc_rows txc_stream txc_db txc_app txc_call_permits txc_cushion txc_shared txc_call_registry txcache_functions
+    txc_txn_ports txc_txn txc_txn_client txc_players anyhow"""
 PAGES = 10_000
 MOST_PAGES = 1_000_000
 MOST_KB = 8_192

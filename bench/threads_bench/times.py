@@ -28,7 +28,7 @@ import unproved
 import with_tests
 
 ROOT = with_tests.ROOT
-LIBRARIES = "txc_stamp txc_tags txc_node txc_rows txc_db txc_app txc_registry txc_ports txc_txn txc_client txc_rw txc_definition txc_site anyhow"
+LIBRARIES = "txc_stamp txc_tags txc_node txc_rows txc_db txc_app txc_call_registry txc_txn_ports txc_txn txc_txn_client txc_txn_rw txc_call_definition txc_site anyhow"
 KINDS = {
     "hits": "two hits",
     "nested": "a call that no node has, which calls a hit",

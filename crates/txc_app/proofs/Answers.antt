@@ -8,7 +8,7 @@ use Rattle.txc_app.specs.declared.ask.Ask.{Ask}
 use Rattle.txc_app.specs.declared.ask.Ask.TheVariants as asks
 use Rattle.txc_app.specs.declared.ask.Answer.{Answer}
 use Rattle.txc_app.specs.Eval.{Next, Evaluation, no_value, after_meeting, after_value, after_ask, activation, call_below, evaluation, met}
-use Rattle.txc_app.specs.Answering.{IsRight, queries_of, queries_after, queries_for}
+use Rattle.txc_app.specs.AnswersSoFar.{IsRight, queries_of, queries_after, queries_for}
 use Rattle.txc_app.specs.Laws.{RightAnswersGiveTheValue}
 use Rattle.txc_app.proofs.Evals.{below_is}
 

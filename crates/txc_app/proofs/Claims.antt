@@ -18,7 +18,7 @@ use Rattle.txc_app.specs.declared.ask.Answer.{Answer}
 use Rattle.txc_app.specs.declared.ask.Answer.TheVariants as answers
 use Rattle.txc_app.specs.declared.ask.Ask.{Ask}
 use Rattle.txc_app.specs.Eval.{Next, eval, met}
-use Rattle.txc_app.specs.Answering.{IsRight, AreRight, queries_of}
+use Rattle.txc_app.specs.AnswersSoFar.{IsRight, AreRight, queries_of}
 use Rattle.txc_app.specs.Claims.{covers_all, HoldsIn, HoldsOver}
 use Rattle.txc_app.specs.Laws.{EventLeaves, TrueInLonger, IsDoneAfter, FoundRowsHold, DoneAfterIsTrue}
 use Rattle.txc_app.proofs.Evals.{equal_answers_decide}

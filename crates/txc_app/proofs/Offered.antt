@@ -4,7 +4,7 @@ use Rattle.std.proofs.Math.Seq.{take-length}
 use Rattle.std.proofs.lemmas.List.{take-append-le}
 use Rattle.std.proofs.lemmas.Option.{slice_get_within}
 use mathlib.Core.List.{IsPrefix}
-use Rattle.txc_app.specs.Each.{EachAfter}
+use Rattle.txc_app.specs.EachAfter.{EachAfter}
 
 module _ {X : Type 0} where
   -- what stands in a list with one item more

@@ -9,7 +9,7 @@ use Rattle.txc_rows.specs.States.{RowValue, State, answer}
 use Rattle.txc_rows.specs.RowTags.{covers_query}
 use Rattle.txc_db.specs.History.{History, state_at}
 use Rattle.txc_node.specs.declared.entry.Entry.{Entry}
-use Rattle.txc_node.specs.declared.hit.Shown.{Shown}
+use Rattle.txc_node.specs.declared.hit.HitValue.{HitValue}
 use Rattle.txc_app.specs.Eval.{Next, eval, met}
 
 -- the set covers each of the queries
@@ -42,5 +42,5 @@ abbrev pub IsTrueIn : Next → History → Entry → Type 0
 IsTrueIn next L e = ValueHolds next L e.key e.value (Some e.reach) e.tags
 
 -- the entry of the call that is shown so
-abbrev pub entry_shown : Call → Shown → Entry
+abbrev pub entry_shown : Call → HitValue → Entry
 entry_shown key shown = record { key = key; value = shown.value; reach = shown.reach; tags = shown.tags }

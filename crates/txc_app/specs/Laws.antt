@@ -17,7 +17,7 @@ use Rattle.txc_app.specs.declared.ask.Ask.TheVariants as asks
 use Rattle.txc_app.specs.declared.ask.Answer.{Answer}
 use Rattle.txc_app.specs.declared.ask.Answer.TheVariants as answers
 use Rattle.txc_app.specs.Eval.{Calls, Next, no_value, called_with, evaluation, eval, met}
-use Rattle.txc_app.specs.Answering.{AreRight, queries_for}
+use Rattle.txc_app.specs.AnswersSoFar.{AreRight, queries_for}
 use Rattle.txc_app.specs.Claims.{covers_all, RowsHold, IsTrueIn}
 
 -- ---- calls

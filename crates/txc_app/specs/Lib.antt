@@ -1,5 +1,5 @@
-pub mod Each
-pub mod Eval
-pub mod Answering
+pub mod AnswersSoFar
 pub mod Claims
+pub mod EachAfter
+pub mod Eval
 pub mod Laws

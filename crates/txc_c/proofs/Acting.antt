@@ -4,7 +4,7 @@ use Rattle.std.specs.Prelude.{IsSome}
 use Rattle.slab.specs.Slab.{get, with_value, Updates}
 use Rattle.slab.proofs.SlabLemmas.{Updates-with_value}
 use Rattle.txc_caller.specs.Ports.{HasGrownDatabase}
-use Rattle.txc_caller.specs.Reading.{CallerValue, KeepsCaller}
+use Rattle.txc_caller.specs.CallerTxn.{CallerValue, KeepsCaller}
 use Rattle.txc_c.specs.Opened.{IsOpenOf, OpenStays}
 use Rattle.txc_c.specs.Sites.{ForOpen, OneHasActed, IsSite, OfNumber, SiteValue}
 use Rattle.txc_c.specs.declared.opened.Open.{Open}

@@ -8,7 +8,7 @@ use Rattle.std.specs.contracts.impls.GlobalAllocator.TheImpl.{ghosts, dict}
 use Rattle.std.proofs.alloc.Global.TheLaws as heap
 use Rattle.txc_c.specs.contracts.counted.CountedNode as Core
 use Rattle.txc_c.proofs.counted.CountedNode.TheLaws as core
-use Rattle.txc_parts.specs.contracts.parts.Parts as Parts
+use Rattle.txc_base.specs.contracts.parts.Parts as Parts
 use Rattle.txc_c.specs.contracts.handle.Slot as SlotType
 
 abbrev pub E : Bx

@@ -1,17 +1,17 @@
 -- What a site is told of a transaction that begins in it, or does not.
 use Rattle.std.proofs.Common.{◌≡◌, ◌∙◌, ℕ, Bool, true, false, inl, inr, refl, ap, subst}
 use Rattle.slab.specs.Slab.{Slab}
-use Rattle.txc_crossing.specs.declared.numbers.TheConstants.{DONE, NO_MEMORY}
+use Rattle.txc_c_types.specs.declared.numbers.TheConstants.{DONE, NO_MEMORY}
 use Rattle.txc_db.specs.declared.error.DbError.{DbError}
-use Rattle.txc_ports.specs.declared.bounds.Bounds.{Bounds}
-use Rattle.txc_txn.specs.Kept.{TxnValue}
+use Rattle.txc_txn_ports.specs.declared.bounds.Bounds.{Bounds}
+use Rattle.txc_txn.specs.RunningTxn.{TxnValue}
 use Rattle.txc_caller.specs.Ports.{GoesOnByEvents, HasGrownDatabase, HasNoEventFor, StaysBehind}
-use Rattle.txc_caller.specs.Reading.{CallerValue, IsBegunReading, KeepsCaller}
+use Rattle.txc_caller.specs.CallerTxn.{CallerValue, IsBegunReading, KeepsCaller}
 use Rattle.txc_caller.proofs.Taken.{said_so}
 use Rattle.txc_c.specs.Opaque.{opaque_next}
 use Rattle.txc_c.specs.Opened.{IsOpenOf, OpenStays}
 use Rattle.txc_c.specs.Sites.{HasPutAtPlace, HasMadeRoom, IsSite, SiteValue}
-use Rattle.txc_c.specs.Turning.{database_number, BeginPlaced, BeginWritePlaced, BeginsReading, MayHaveCaughtUp}
+use Rattle.txc_c.specs.BeginAndEnd.{database_number, BeginPlaced, BeginWritePlaced, BeginsReading, MayHaveCaughtUp}
 use Rattle.txc_c.specs.declared.opened.Open.{Open}
 use Rattle.txc_c.specs.declared.opened.Open.TheVariants.{Reading}
 use Rattle.txc_c.specs.declared.opened.Opened.{Opened}

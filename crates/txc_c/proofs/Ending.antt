@@ -1,12 +1,12 @@
 -- What a site is told of a transaction whose changes are committed.
 use Rattle.std.proofs.Common.{◌≡◌, ◌∙◌, ℕ, Option, Some, inl, refl, ap, sym, subst}
-use Rattle.txc_crossing.specs.declared.numbers.TheConstants.{DONE}
+use Rattle.txc_c_types.specs.declared.numbers.TheConstants.{DONE}
 use Rattle.txc_caller.specs.Ports.{HasGrownDatabase}
-use Rattle.txc_caller.specs.Reading.{CallerValue, KeepsCaller}
-use Rattle.txc_caller.specs.Writing.{CallerWriting}
+use Rattle.txc_caller.specs.CallerTxn.{CallerValue, KeepsCaller}
+use Rattle.txc_caller.specs.CallerWrite.{CallerWriting}
 use Rattle.txc_c.specs.Opened.{OpenStays}
 use Rattle.txc_c.specs.Sites.{open_at, ForOpen, HasTakenOut, IsSite, SiteValue}
-use Rattle.txc_c.specs.Turning.{CommitWriteComesTo, CommitsWriteAt, HasCommittedWrites}
+use Rattle.txc_c.specs.BeginAndEnd.{SiteCommitWriteTransition, CommitsWriteAt, HasCommittedWrites}
 use Rattle.txc_c.specs.declared.opened.Open.{Open}
 use Rattle.txc_c.specs.declared.opened.Open.TheVariants.{Writing}
 use Rattle.txc_c.specs.declared.opened.Opened.{Opened}
@@ -23,7 +23,7 @@ module _ (stay : OpenStays) (s0 s : SiteValue) (n : ℕ) (o : Opened) (taken : H
   abbrev at_end : SiteValue
   at_end = record { caller = c'; opened = s.opened; begun = s.begun }
 
-  pub committed_write : (w : CallerWriting) → o.txn ≡ Writing w → (was stamp : ℕ) → HasCommittedWrites w stamp s.caller c' → CommitWriteComesTo was stamp n s0 DONE at_end
+  pub committed_write : (w : CallerWriting) → o.txn ≡ Writing w → (was stamp : ℕ) → HasCommittedWrites w stamp s.caller c' → SiteCommitWriteTransition was stamp n s0 DONE at_end
   committed_write w is was stamp done =
       subst (λ (x : Option Open). ForOpen (CommitsWriteAt was stamp n) (stamp ≡ was) x s0 DONE at_end) (sym (was_open (Writing w) is))
       (inl (refl, has_ended stay s0 s n o taken site c' keeps grown (HasCommittedWrites w stamp) (subst (λ (c : CallerValue). HasCommittedWrites w stamp c c') same_caller done)))

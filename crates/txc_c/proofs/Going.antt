@@ -4,7 +4,7 @@ use Rattle.std.specs.Prelude.{if◌then◌else◌}
 use Rattle.std.proofs.lemmas.Bool.{and_parts}
 use Rattle.slab.specs.Slab.{Slab, get, slab_len}
 use Rattle.txc_caller.specs.Ports.{HasGrownDatabase}
-use Rattle.txc_caller.specs.Reading.{CallerValue, KeepsCaller}
+use Rattle.txc_caller.specs.CallerTxn.{CallerValue, KeepsCaller}
 use Rattle.txc_c.specs.Opened.{IsOpenOf, OpenStays}
 use Rattle.txc_c.specs.Sites.{of_number, open_at, HasPutAtPlace, HasBegunAt, HasEndedAt, HasMadeRoom, HasTakenOut, IsPlaced, IsSite, SiteValue}
 use Rattle.txc_c.specs.declared.opened.Open.{Open}

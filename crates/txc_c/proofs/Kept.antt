@@ -3,8 +3,8 @@ use Rattle.std.proofs.Common.{◌≡◌, ◌∙◌, ℕ, inl, length, subst}
 use Rattle.txc_cushion.specs.Cushion.{retired}
 use Rattle.txc_db.specs.DatabaseValue.{next_horizon}
 use Rattle.txc_caller.specs.Ports.{HasRetired, HasVacuumedPorts}
-use Rattle.txc_caller.specs.Reading.{CallerValue, KeepsCaller}
-use Rattle.txc_c.specs.Keeping.{HasKept, HasSweptNode, HasVacuumed}
+use Rattle.txc_caller.specs.CallerTxn.{CallerValue, KeepsCaller}
+use Rattle.txc_c.specs.Maintenance.{HasKept, HasSweptNode, HasVacuumed}
 use Rattle.txc_c.specs.declared.kept.TxcKept.{TxcKept}
 
 -- what two acts keep of the caller

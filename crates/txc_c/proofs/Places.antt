@@ -5,7 +5,7 @@ use Rattle.std.specs.Option.{ForSome}
 use Rattle.std.proofs.lemmas.Bool.{cases_eq}
 use Rattle.slab.specs.Slab.{Slab, get, Updates}
 use Rattle.txc_caller.specs.Ports.{HasGrownDatabase}
-use Rattle.txc_caller.specs.Reading.{CallerValue, KeepsCaller}
+use Rattle.txc_caller.specs.CallerTxn.{CallerValue, KeepsCaller}
 use Rattle.txc_c.specs.Opened.{OpenStays}
 use Rattle.txc_c.specs.Sites.{of_number, AreAtPlaces, IsNumberOf, IsPlaced, IsSite, SiteValue}
 use Rattle.txc_c.specs.declared.opened.Open.{Open}

@@ -1,7 +1,7 @@
 -- What the act of one transaction leaves of the others.
 use Rattle.std.proofs.Common.{◌∙◌, sym}
 use Rattle.txc_db.specs.Laws.{StatesStay}
-use Rattle.txc_rw.proofs.Holding.{holds_in_longer}
+use Rattle.txc_txn_rw.proofs.Holding.{holds_in_longer}
 use Rattle.txc_c.specs.Opaque.{opaque_next}
 use Rattle.txc_c.specs.Opened.{OpenStays}
 use Rattle.txc_c.specs.declared.opened.Open.TheVariants.{Reading, Writing}

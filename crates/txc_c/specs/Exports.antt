@@ -2,7 +2,7 @@
 use Rattle.std.specs.Prelude.{◌≡◌, ℕ, if◌then◌else◌, Option, Some, None}
 use Rattle.std.specs.Option.{ForSome}
 use Rattle.txc_app.specs.declared.ask.Ask.{Ask}
-use Rattle.txc_crossing.specs.declared.numbers.TheConstants.{ALREADY_OPEN, BAD_ARGUMENT, CLOSED, DONE}
+use Rattle.txc_c_types.specs.declared.numbers.TheConstants.{ALREADY_OPEN, BAD_ARGUMENT, CLOSED, DONE}
 use Rattle.txc_c.specs.Opened.{OpenAsksNext}
 use Rattle.txc_c.specs.Settings.{are_settings}
 use Rattle.txc_c.specs.Sites.{open_at, IsNewSite, SiteValue}
@@ -28,10 +28,10 @@ abbrev pub HeldAsksNext : Ask → ℕ → Option SiteValue → Type 0
 HeldAsksNext ask n held = ForSome held (SiteAsksNext ask n)
 
 -- The effect of a call of a handle: without a site, nothing is written; with one, this.
-abbrev pub ComesTo : (SiteValue → ℕ → SiteValue → Type 0) → Type 0 → Option SiteValue → ℕ → Option SiteValue → Type 0
-ComesTo does unwritten None number new = (number ≡ CLOSED) × (new ≡ None) × unwritten
-ComesTo does unwritten (Some old) number (Some new) = does old number new
-ComesTo does unwritten (Some old) number None = ⊥
+abbrev pub SiteTransition : (SiteValue → ℕ → SiteValue → Type 0) → Type 0 → Option SiteValue → ℕ → Option SiteValue → Type 0
+SiteTransition does unwritten None number new = (number ≡ CLOSED) × (new ≡ None) × unwritten
+SiteTransition does unwritten (Some old) number (Some new) = does old number new
+SiteTransition does unwritten (Some old) number None = ⊥
 
 -- the same of one that changes nothing
 abbrev pub Shows : (SiteValue → ℕ → Type 0) → Type 0 → Option SiteValue → ℕ → Option SiteValue → Type 0

@@ -1,19 +1,19 @@
 -- The numbers that calls return.
 use Rattle.std.specs.Prelude.{ℕ, Option, Some, None}
 use Rattle.txc_node.specs.declared.value.TheConstants.{MOST_VALUE_LEN}
-use Rattle.txc_node.specs.declared.hit.Shown.{Shown}
+use Rattle.txc_node.specs.declared.hit.HitValue.{HitValue}
 use Rattle.txc_node.specs.declared.node.Inserted.{Inserted}
 use Rattle.txc_node.specs.declared.node.Inserted.TheVariants.{Stored, Kept}
 use Rattle.txc_node.specs.declared.op.Op.{Op}
-use Rattle.txc_crossing.specs.Numbers.{bytes_number, refusal_number}
+use Rattle.txc_c_types.specs.Numbers.{bytes_number, refusal_number}
 use Rattle.txc_node.specs.declared.reply.Reply.{Reply}
 use Rattle.txc_node.specs.declared.reply.Reply.TheVariants as replies
 use Rattle.txc_node.specs.Steps.{reply_to}
-use Rattle.txc_c.specs.Counted.{Counted}
-use Rattle.txc_crossing.specs.declared.numbers.TheConstants.{DONE, MISS, KEPT, CLOSED, BAD_ARGUMENT}
+use Rattle.txc_c.specs.CountedNode.{Counted}
+use Rattle.txc_c_types.specs.declared.numbers.TheConstants.{DONE, MISS, KEPT, CLOSED, BAD_ARGUMENT}
 
 -- the number of a hit, by the room of the buffer
-abbrev pub hit_number : ℕ → Shown → ℕ
+abbrev pub hit_number : ℕ → HitValue → ℕ
 hit_number room shown = bytes_number DONE room shown.value
 
 -- the number of what an insertion did
@@ -22,7 +22,7 @@ inserted_number (Stored reach evicted) = DONE
 inserted_number (Kept entry) = KEPT
 
 -- the number of a reply, by the room of the buffer
-abbrev pub reply_number : ℕ → Reply Shown → ℕ
+abbrev pub reply_number : ℕ → Reply HitValue → ℕ
 reply_number room (replies.Inserted inserted) = inserted_number inserted
 reply_number room (replies.Hit shown) = hit_number room shown
 reply_number room replies.Miss = MISS

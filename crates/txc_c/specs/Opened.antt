@@ -3,16 +3,16 @@ use Rattle.std.specs.Prelude.{◌≡◌, ◌++◌, false, IfErr, OnErr, OnOk, Op
 use Rattle.txc_tags.specs.Keys.{Call}
 use Rattle.txc_app.specs.declared.ask.Ask.{Ask}
 use Rattle.txc_app.specs.declared.ask.Ask.TheVariants as asks
-use Rattle.txc_registry.specs.Objects.{numbers_of, Objects}
-use Rattle.txc_call.specs.Calling.{Calling}
-use Rattle.txc_call.specs.Running.{is_done}
-use Rattle.txc_txn.specs.Kept.{IsTxn, TxnValue}
-use Rattle.txc_caller.specs.Acting.{step_error, ActLeads}
-use Rattle.txc_caller.specs.Looking.{IsComputedOnMiss}
+use Rattle.txc_call_registry.specs.Objects.{numbers_of, Objects}
+use Rattle.txc_call.specs.CallMachine.{Calling}
+use Rattle.txc_call.specs.CallSteps.{is_done}
+use Rattle.txc_txn.specs.RunningTxn.{IsTxn, TxnValue}
+use Rattle.txc_caller.specs.CallerAct.{step_error, CallerActTransition}
+use Rattle.txc_caller.specs.NodeLookup.{IsComputedOnMiss}
 use Rattle.txc_caller.specs.Ports.{HasGrownDatabase}
-use Rattle.txc_caller.specs.Reading.{open_states, CallerValue, IsOf, IsReadingStep, KeepsCaller, KeepsTxn}
-use Rattle.txc_caller.specs.Telling.{top_call, top_or, AsksNext, IsToldAfterAsk, ObjectsFollow}
-use Rattle.txc_caller.specs.Writing.{base_states, queried_for, CallerWriting, IsActRefused, IsWriteOf, IsWritingStep}
+use Rattle.txc_caller.specs.CallerTxn.{open_states, CallerValue, IsOf, IsReadingStep, KeepsCaller, KeepsTxn}
+use Rattle.txc_caller.specs.ComputedFunctions.{top_call, top_or, AsksNext, IsToldAfterAsk, ObjectsFollow}
+use Rattle.txc_caller.specs.CallerWrite.{base_states, queried_for, CallerWriting, IsActRefused, IsWriteOf, IsWritingStep}
 use Rattle.txc_caller.specs.declared.step.CallerError.{CallerError}
 use Rattle.txc_caller.specs.declared.step.CallerError.TheVariants.{NoFunction}
 use Rattle.txc_caller.specs.declared.step.Step.{Step}
@@ -64,9 +64,9 @@ pub record HasSteppedReading (ask : Ask) (k : Call) (c : CallerValue) (t : TxnVa
   pub told : IsToldAfterAsk opaque_next (open_states t'.core) t.core.call ask t'.core.call step
   pub objects : ObjectsFollow t.objects t.core.call ask t'.objects step
   pub on_miss : IsComputedOnMiss t'.core c.ports.node c'.ports.node step
-  pub leads : ActLeads opaque_next.limits c.ports t ask c'.ports t'.core.taken (step_error step)
+  pub transition : CallerActTransition opaque_next.limits c.ports t ask c'.ports t'.core.taken (step_error step)
   pub keeps : KeepsTxn t t'
-  pub meant : IsTxn opaque_next t'
+  pub valid : IsTxn opaque_next t'
   pub caller : KeepsCaller c c'
   pub grown : HasGrownDatabase c.ports.database c'.ports.database
 
@@ -88,7 +88,7 @@ pub record HasSteppedWriting (ask : Ask) (k : Call) (c : CallerValue) (w : Calle
     core = record w.core { queried = w'.core.queried; answers = w'.core.answers; call = w'.core.call };
     objects = w'.objects;
   }
-  pub meant : IsWriteOf opaque_next c' w'
+  pub valid : IsWriteOf opaque_next c' w'
   pub caller : c' ≡ c
 
 abbrev pub HasMadeAsk : Ask → Call → CallerValue → Open → Result Step CallerError → CallerValue → Open → Type 0

@@ -4,8 +4,8 @@ use Rattle.std.specs.Option.{ForSome}
 use Rattle.slab.specs.Slab.{Slab, get, slab_len, HasRoomFor, Updates}
 use Rattle.txc_shared.specs.Nodes.{start_of}
 use Rattle.txc_caller.specs.Ports.{HasEventRoom, IsNewDatabase}
-use Rattle.txc_caller.specs.Reading.{CallerValue}
-use Rattle.txc_crossing.specs.declared.numbers.TheConstants.{NO_MEMORY, NOT_OPEN, REFUSED}
+use Rattle.txc_caller.specs.CallerTxn.{CallerValue}
+use Rattle.txc_c_types.specs.declared.numbers.TheConstants.{NO_MEMORY, NOT_OPEN, REFUSED}
 use Rattle.txc_c.specs.Opened.{IsOpenOf}
 use Rattle.txc_c.specs.Settings.{budget_of, site_node_of, renew_after_of, room_of}
 use Rattle.txc_c.specs.declared.opened.Open.{Open}

@@ -8,16 +8,16 @@ ghost use Rattle.txc_node.specs.declared.reply.Reply.TheVariants as replies;
 ghost use Rattle.txc_node.specs.Counts.{counts_of, AreCountsOf};
 ghost use Rattle.txc_node.specs.Hit.{seen};
 ghost use Rattle.txc_node.specs.Steps.{entry_refusal, reply_to, seen_reply};
-ghost use Rattle.txc_c.specs.Counted.{totals_of_node, IsOpened, LeavesCounted, TotalsAfter};
-ghost use Rattle.txc_crossing.specs.Crossing.{crossing_reach, written_in};
+ghost use Rattle.txc_c.specs.CountedNode.{totals_of_node, IsOpened, LeavesCounted, TotalsAfter};
+ghost use Rattle.txc_c_types.specs.CacheViews.{crossing_reach, written_in};
 ghost use Rattle.txc_c.specs.Numbers.{hit_number, inserted_number, reply_number};
-ghost use Rattle.txc_c.specs.Told.{reach_told, len_told, bytes_told, StoredTold, closed_told, swept_told, trimmed_told};
+ghost use Rattle.txc_c.specs.NodeReply.{reach_told, len_told, bytes_told, StoredTold, closed_told, swept_told, trimmed_told};
 
 use crate::totals::TxcTotals;
 use std::alloc::{AllocError, Global};
 use std::marker::Model;
-use txc_crossing::{
-    DONE, EMPTY_RANGE, KEPT, MISS, NO_MEMORY, OUT_OF_ORDER, TxcReach, TxcStored, tell,
+use txc_c_types::{
+    DONE, EMPTY_RANGE, KEPT, MISS, NO_MEMORY, OUT_OF_ORDER, TxcReach, TxcStored, write_value,
 };
 use txc_node::{Counts, Entry, FunctionCounts, Hit, Inserted, NodeCore, Reply};
 use txc_stamp::Stamp;
@@ -85,7 +85,7 @@ pub struct CountedNode {
 }
 
 impl Model for CountedNode {
-    ghost use Rattle.txc_c.specs.Counted.{Counted};
+    ghost use Rattle.txc_c.specs.CountedNode.{Counted};
 
     ghost Value = { Counted };
 
@@ -93,18 +93,18 @@ impl Model for CountedNode {
 }
 
 /// Writes the reach and the length of a hit, and its value if there is room for it.
-fn tell_hit(hit: &Hit<'_>, reach: &mut TxcReach, value: &mut [u8], len: &mut usize) -> u32
+fn write_hit(hit: &Hit<'_>, reach: &mut TxcReach, value: &mut [u8], len: &mut usize) -> u32
     ensures number { result ≡ hit_number (length value.old) (seen hit.now) }
     ensures reach { reach.new ≡ crossing_reach (seen hit.now).reach }
     ensures len { len.new ≡ length (seen hit.now).value }
     ensures bytes { value.new ≡ written_in (seen hit.now).value value.old }
 {
     *reach = TxcReach::of(hit.reach());
-    tell(DONE, hit.value.bytes(), value, len)
+    write_value(DONE, hit.value.bytes(), value, len)
 }
 
 /// Writes the result of an insertion that stored its entry.
-fn tell_stored(inserted: &Inserted, stored: &mut TxcStored) -> u32
+fn write_stored(inserted: &Inserted, stored: &mut TxcStored) -> u32
     ensures number { result ≡ inserted_number inserted.now }
     ensures told { StoredTold (Some (replies.Inserted inserted.now)) stored.old stored.new }
 {
@@ -183,7 +183,7 @@ impl CountedNode {
                 MISS
             }
             Ok(Some(hit)) => {
-                let number = tell_hit(&hit, reach, value, len);
+                let number = write_hit(&hit, reach, value, len);
                 self.tally.note(function, &Reply::Hit(hit));
                 number
             }
@@ -204,7 +204,7 @@ impl CountedNode {
         let Ok(inserted) = self.node.insert(entry) else {
             return NO_MEMORY;
         };
-        let number = tell_stored(&inserted, stored);
+        let number = write_stored(&inserted, stored);
         self.tally.note(function, &Reply::Inserted(inserted));
         number
     }

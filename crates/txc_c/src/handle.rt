@@ -1,13 +1,13 @@
 //! The handle of a node: a pointer to one on the heap.
 ghost use Rattle.std.specs.Prelude.{◌≡◌, Bool, true, false, Some, None};
-ghost use Rattle.txc_c.specs.Counted.{Counted};
+ghost use Rattle.txc_c.specs.CountedNode.{Counted};
 ghost use Rattle.std.specs.Option.{option_map};
 
 use crate::counted::CountedNode;
 use std::alloc::Global;
 use std::marker::Model;
 use std::{mem, ptr};
-use txc_parts::Parts;
+use txc_base::Parts;
 
 /// A pointer to a node, or to none.
 #[repr(C)]
@@ -29,7 +29,7 @@ impl Drop for Slot {
 
 impl Model for Slot {
     ghost use Rattle.std.specs.Box.Ownership.{box_owns};
-    ghost use Rattle.txc_rows.specs.Owned.{when};
+    ghost use Rattle.txc_rows.specs.HandleOwnership.{when};
     ghost use Rattle.txc_c.specs.contracts.counted.CountedNode.{the_row};
     ghost use Rattle.std.specs.contracts.impls.GlobalAllocator.TheImpl.{ghosts};
 
@@ -89,7 +89,7 @@ impl Drop for TxcNode {
 }
 
 impl TxcNode {
-    ghost use Rattle.txc_c.specs.Held.{held};
+    ghost use Rattle.txc_c.specs.HeldNode.{held};
 
     /// Returns its slot, and whether that has a node.
     pub(crate) fn into_slot(self) -> (Slot, bool)

@@ -16,8 +16,8 @@ mod opened;
 mod receipts;
 mod site;
 mod site_handle;
+mod site_reply;
 mod site_settings;
-mod telling;
 mod totals;
 mod txn;
 
@@ -31,7 +31,7 @@ pub use receipts::{TxcQuery, TxcReceipt, TxcRow};
 pub use site_handle::{TxcSite, site_crosses};
 pub use site_settings::{STORE_PLAIN, STORE_SQL, TxcSiteSettings};
 pub use totals::TxcTotals;
-pub use txc_crossing::{TxcCounts, TxcKey, TxcReach, TxcStored, TxcTag};
+pub use txc_c_types::{TxcCounts, TxcKey, TxcReach, TxcStored, TxcTag};
 pub use txn::{
     txc_abi, txc_abort, txc_answer, txc_begin, txc_begin_write, txc_begin_write_at, txc_call,
     txc_commit, txc_commit_write, txc_finish, txc_give_up, txc_keep, txc_member_at,

@@ -3,18 +3,18 @@ ghost use Rattle.std.specs.Prelude.{◌≡◌, ◌≢◌, Some, None, length, if
 ghost use Rattle.txc_node.specs.declared.value.TheConstants.{MOST_VALUE_LEN};
 ghost use Rattle.txc_node.specs.declared.op.Op.TheVariants as steps;
 ghost use Rattle.txc_node.specs.Steps.{entry_refusal};
-ghost use Rattle.txc_c.specs.Counted.{CallLeaves, HasOpened};
-ghost use Rattle.txc_crossing.specs.Crossing.{asked_entry, event_asked, insert_asked, lookup_asked, sweep_asked};
-ghost use Rattle.txc_c.specs.Held.{held};
-ghost use Rattle.txc_c.specs.Life.{close_number, count_number, counts_told, open_number, totals_number, totals_told};
+ghost use Rattle.txc_c.specs.CountedNode.{CallLeaves, HasOpened};
+ghost use Rattle.txc_c_types.specs.CacheViews.{asked_entry, event_asked, insert_asked, lookup_asked, sweep_asked};
+ghost use Rattle.txc_c.specs.HeldNode.{held};
+ghost use Rattle.txc_c.specs.Handles.{close_number, count_number, counts_told, open_number, totals_number, totals_told};
 ghost use Rattle.txc_c.specs.Numbers.{call_number};
-ghost use Rattle.txc_c.specs.Told.{call_reply, reach_told, len_told, bytes_told, StoredTold, closed_told, swept_told, trimmed_told, processed_told};
+ghost use Rattle.txc_c.specs.NodeReply.{call_reply, reach_told, len_told, bytes_told, StoredTold, closed_told, swept_told, trimmed_told, processed_told};
 
 use crate::counted::CountedNode;
 use crate::handle::TxcNode;
 use crate::totals::TxcTotals;
 use std::alloc::{AllocError, Global};
-use txc_crossing::{
+use txc_c_types::{
     ALREADY_OPEN, BAD_ARGUMENT, BAD_REACH, CLOSED, DONE, NO_MEMORY, TxcCounts, TxcKey, TxcReach,
     TxcStored, TxcTag, VALUE_TOO_LONG, are_sizes, are_tags, is_insertion, stamp_of, tags_of,
 };

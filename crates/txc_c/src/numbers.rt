@@ -1,15 +1,15 @@
 //! The numbers of errors, which an export returns.
 ghost use Rattle.std.specs.Prelude.{◌≡◌};
-ghost use Rattle.txc_c.specs.Asking.{txn_number, change_number};
-ghost use Rattle.txc_c.specs.Keeping.{add_number, node_number, pin_number};
-ghost use Rattle.txc_c.specs.Turning.{database_number, write_number};
+ghost use Rattle.txc_c.specs.Calls.{txn_number, change_number};
+ghost use Rattle.txc_c.specs.Maintenance.{add_number, node_number, pin_number};
+ghost use Rattle.txc_c.specs.BeginAndEnd.{database_number, write_number};
 
+use txc_c_types::{CONFLICT, DONE, MID_CALL, NO_MEMORY, REFUSED};
 use txc_caller::{PinError, WriteError};
-use txc_crossing::{CONFLICT, DONE, MID_CALL, NO_MEMORY, REFUSED};
 use txc_cushion::AddError;
 use txc_db::DbError;
-use txc_ports::TxnError;
 use txc_shared::NodeError;
+use txc_txn_ports::TxnError;
 
 /// Returns the number of an error of a transaction.
 pub(crate) fn txn_number(error: TxnError) -> u32

@@ -1,9 +1,9 @@
 //! The open transactions of a site, each with its number.
 ghost use Rattle.std.specs.Prelude.{◌≡◌, ◌↔◌, ◌%◌, ◌<◌, IsSome, IsTrue, MatchOption, None, Some};
 ghost use Rattle.slab.specs.Slab.{HasRoomFor};
-ghost use Rattle.txc_caller.specs.Reading.{CallerValue};
-ghost use Rattle.txc_caller.specs.Telling.{told_answer, top_call};
-ghost use Rattle.txc_c.specs.Asking.{stamp_read_next, HasGivenCallUp, OpenChanges};
+ghost use Rattle.txc_caller.specs.CallerTxn.{CallerValue};
+ghost use Rattle.txc_caller.specs.ComputedFunctions.{told_answer, top_call};
+ghost use Rattle.txc_c.specs.Calls.{stamp_read_next, HasGivenCallUp, OpenChanges};
 ghost use Rattle.txc_c.specs.Opened.{calling_of, IsOpenOf, IsAskStep, OpenAsksNext, OpenStays};
 ghost use Rattle.txc_c.specs.Sites.{HasPutAtPlace};
 
@@ -14,8 +14,8 @@ use crate::opaque::Opaque;
 use slab::Slab;
 use std::alloc::Global;
 use txc_app::{Answer, Ask};
+use txc_c_types::NOT_OPEN;
 use txc_caller::{Caller, CallerError, CallerTxn, CallerWrite, Step};
-use txc_crossing::NOT_OPEN;
 use txc_db::states_stay;
 use txc_rows::Change;
 use txc_stamp::Stamp;

@@ -8,7 +8,7 @@ use crate::site::Site;
 use std::alloc::Global;
 use std::marker::Model;
 use std::{mem, ptr};
-use txc_parts::Parts;
+use txc_base::Parts;
 
 /// A pointer to a site, or to none.
 #[repr(C)]
@@ -30,7 +30,7 @@ impl Drop for SiteSlot {
 
 impl Model for SiteSlot {
     ghost use Rattle.std.specs.Box.Ownership.{box_owns};
-    ghost use Rattle.txc_rows.specs.Owned.{when};
+    ghost use Rattle.txc_rows.specs.HandleOwnership.{when};
     ghost use Rattle.txc_c.specs.contracts.site.Site.{the_row};
     ghost use Rattle.std.specs.contracts.impls.GlobalAllocator.TheImpl.{ghosts};
 
@@ -90,7 +90,7 @@ impl Drop for TxcSite {
 }
 
 impl TxcSite {
-    ghost use Rattle.txc_c.specs.SiteHeld.{site_held};
+    ghost use Rattle.txc_c.specs.HeldSite.{site_held};
 
     /// Returns its slot, and whether that has a site.
     pub(crate) fn into_slot(self) -> (SiteSlot, bool)

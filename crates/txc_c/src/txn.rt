@@ -1,18 +1,18 @@
 //! The exports of a site and its transactions.
 ghost use Rattle.std.specs.Prelude.{◌≡◌, ◌≢◌, None};
 ghost use Rattle.txc_app.specs.declared.ask.Ask.TheVariants as asks;
-ghost use Rattle.txc_crossing.specs.Crossing.{named_call};
-ghost use Rattle.txc_c.specs.Asking.{CallComesTo, FinishComesTo, GiveUpComesTo, LastOf, MemberOf, PutComesTo, QueryComesTo, ReadStampOf, RemoveComesTo, RowOf};
-ghost use Rattle.txc_c.specs.Exports.{open_site_number, ComesTo, HasNewSite, HeldAsksNext, Shows};
-ghost use Rattle.txc_c.specs.Keeping.{KeepComesTo, PinComesTo};
-ghost use Rattle.txc_c.specs.Life.{close_number};
-ghost use Rattle.txc_c.specs.Listing.{CountTold, OldestTold};
+ghost use Rattle.txc_c_types.specs.CacheViews.{named_call};
+ghost use Rattle.txc_c.specs.Calls.{SiteCallTransition, SiteFinishTransition, SiteGiveUpTransition, LastOf, MemberOf, SitePutTransition, SiteQueryTransition, ReadStampOf, SiteRemoveTransition, RowOf};
+ghost use Rattle.txc_c.specs.Exports.{open_site_number, SiteTransition, HasNewSite, HeldAsksNext, Shows};
+ghost use Rattle.txc_c.specs.Maintenance.{SiteKeepTransition, SitePinTransition};
+ghost use Rattle.txc_c.specs.Handles.{close_number};
+ghost use Rattle.txc_c.specs.OpenTransactions.{CountTold, OldestTold};
 ghost use Rattle.txc_c.specs.Receipts.{query_of};
-ghost use Rattle.txc_c.specs.SiteHeld.{site_held};
+ghost use Rattle.txc_c.specs.HeldSite.{site_held};
 ghost use Rattle.txc_c.specs.Sites.{open_at};
-ghost use Rattle.txc_c.specs.Telling.{buffer};
-ghost use Rattle.txc_c.specs.Trimming.{TotalsTold, TrimComesTo};
-ghost use Rattle.txc_c.specs.Turning.{AbortComesTo, BeginComesTo, BeginWriteAtComesTo, BeginWriteComesTo, CommitComesTo, CommitWriteComesTo};
+ghost use Rattle.txc_c.specs.SiteReply.{buffer};
+ghost use Rattle.txc_c.specs.Trim.{TotalsTold, SiteTrimTransition};
+ghost use Rattle.txc_c.specs.BeginAndEnd.{SiteAbortTransition, SiteBeginTransition, SiteBeginWriteAtTransition, SiteBeginWriteTransition, SiteCommitTransition, SiteCommitWriteTransition};
 
 use crate::kept::TxcKept;
 use crate::receipts::{TxcQuery, TxcReceipt, TxcRow};
@@ -21,7 +21,7 @@ use crate::site_handle::TxcSite;
 use crate::site_settings::TxcSiteSettings;
 use crate::totals::TxcTotals;
 use std::alloc::Global;
-use txc_crossing::{ALREADY_OPEN, BAD_ARGUMENT, CLOSED, DONE, NO_MEMORY, TxcKey};
+use txc_c_types::{ALREADY_OPEN, BAD_ARGUMENT, CLOSED, DONE, NO_MEMORY, TxcKey};
 
 /// The version of the header that this library implements. It rises with each change of an export or a struct.
 pub const ABI: u32 = 4;
@@ -84,7 +84,7 @@ pub extern "C" fn txc_begin(
     at_least: u32,
     txn: &mut u64,
 ) -> u32
-    ensures { ComesTo (BeginComesTo now staleness at_least txn.old txn.new) (txn.new ≡ txn.old)
+    ensures { SiteTransition (SiteBeginTransition now staleness at_least txn.old txn.new) (txn.new ≡ txn.old)
         (site_held handle.old) result (site_held handle.new) }
 {
     let Some(mut site) = handle.take(alloc) else {
@@ -107,7 +107,7 @@ pub extern "C" fn txc_call(
     len: &mut usize,
 ) -> u32
     requires { HeldAsksNext (asks.Call (named_call key.now)) txn (site_held handle.old) }
-    ensures { ComesTo (CallComesTo key.now (buffer value.old len.old) (buffer value.new len.new) txn) ((value.new ≡ value.old) × (len.new ≡ len.old))
+    ensures { SiteTransition (SiteCallTransition key.now (buffer value.old len.old) (buffer value.new len.new) txn) ((value.new ≡ value.old) × (len.new ≡ len.old))
         (site_held handle.old) result (site_held handle.new) }
 {
     let Some(mut site) = handle.take(alloc) else {
@@ -128,7 +128,7 @@ pub extern "C" fn txc_query_rows(
     count: &mut usize,
 ) -> u32
     requires { HeldAsksNext (asks.Query (query_of query.now)) txn (site_held handle.old) }
-    ensures { ComesTo (QueryComesTo query.now count.old count.new txn) (count.new ≡ count.old)
+    ensures { SiteTransition (SiteQueryTransition query.now count.old count.new txn) (count.new ≡ count.old)
         (site_held handle.old) result (site_held handle.new) }
 {
     let Some(mut site) = handle.take(alloc) else {
@@ -192,7 +192,7 @@ pub extern "C" fn txc_finish(
     len: &mut usize,
 ) -> u32
     requires { HeldAsksNext (asks.Done bytes.now) txn (site_held handle.old) }
-    ensures { ComesTo (FinishComesTo bytes.now (buffer value.old len.old) (buffer value.new len.new) txn) ((value.new ≡ value.old) × (len.new ≡ len.old))
+    ensures { SiteTransition (SiteFinishTransition bytes.now (buffer value.old len.old) (buffer value.new len.new) txn) ((value.new ≡ value.old) × (len.new ≡ len.old))
         (site_held handle.old) result (site_held handle.new) }
 {
     let Some(mut site) = handle.take(alloc) else {
@@ -206,7 +206,7 @@ pub extern "C" fn txc_finish(
 /// Cancels the whole open call.
 #[unsafe(no_mangle)]
 pub extern "C" fn txc_give_up(alloc: Global, handle: &mut TxcSite, txn: u64) -> u32
-    ensures { ComesTo (GiveUpComesTo txn) (Unit {0})
+    ensures { SiteTransition (SiteGiveUpTransition txn) (Unit {0})
         (site_held handle.old) result (site_held handle.new) }
 {
     let Some(mut site) = handle.take(alloc) else {
@@ -265,7 +265,7 @@ pub extern "C" fn txc_commit(
     txn: u64,
     receipt: &mut TxcReceipt,
 ) -> u32
-    ensures { ComesTo (CommitComesTo receipt.old receipt.new txn) (receipt.new ≡ receipt.old)
+    ensures { SiteTransition (SiteCommitTransition receipt.old receipt.new txn) (receipt.new ≡ receipt.old)
         (site_held handle.old) result (site_held handle.new) }
 {
     let Some(mut site) = handle.take(alloc) else {
@@ -279,7 +279,7 @@ pub extern "C" fn txc_commit(
 /// Aborts the transaction.
 #[unsafe(no_mangle)]
 pub extern "C" fn txc_abort(alloc: Global, handle: &mut TxcSite, txn: u64) -> u32
-    ensures { ComesTo (AbortComesTo txn) (Unit {0})
+    ensures { SiteTransition (SiteAbortTransition txn) (Unit {0})
         (site_held handle.old) result (site_held handle.new) }
 {
     let Some(mut site) = handle.take(alloc) else {
@@ -293,7 +293,7 @@ pub extern "C" fn txc_abort(alloc: Global, handle: &mut TxcSite, txn: u64) -> u3
 /// Begins a read-write transaction at the newest state, and writes its number.
 #[unsafe(no_mangle)]
 pub extern "C" fn txc_begin_write(alloc: Global, handle: &mut TxcSite, txn: &mut u64) -> u32
-    ensures { ComesTo (BeginWriteComesTo txn.old txn.new) (txn.new ≡ txn.old)
+    ensures { SiteTransition (SiteBeginWriteTransition txn.old txn.new) (txn.new ≡ txn.old)
         (site_held handle.old) result (site_held handle.new) }
 {
     let Some(mut site) = handle.take(alloc) else {
@@ -312,7 +312,7 @@ pub extern "C" fn txc_begin_write_at(
     stamp: u32,
     txn: &mut u64,
 ) -> u32
-    ensures { ComesTo (BeginWriteAtComesTo stamp txn.old txn.new) (txn.new ≡ txn.old)
+    ensures { SiteTransition (SiteBeginWriteAtTransition stamp txn.old txn.new) (txn.new ≡ txn.old)
         (site_held handle.old) result (site_held handle.new) }
 {
     let Some(mut site) = handle.take(alloc) else {
@@ -334,7 +334,7 @@ pub extern "C" fn txc_put(
     group: u32,
     body: &[u8],
 ) -> u32
-    ensures { ComesTo (PutComesTo (record { table = table; id = id; group = group; body = body.now }) txn) (Unit {0})
+    ensures { SiteTransition (SitePutTransition (record { table = table; id = id; group = group; body = body.now }) txn) (Unit {0})
         (site_held handle.old) result (site_held handle.new) }
 {
     let Some(mut site) = handle.take(alloc) else {
@@ -354,7 +354,7 @@ pub extern "C" fn txc_remove(
     table: u8,
     id: u32,
 ) -> u32
-    ensures { ComesTo (RemoveComesTo table id txn) (Unit {0})
+    ensures { SiteTransition (SiteRemoveTransition table id txn) (Unit {0})
         (site_held handle.old) result (site_held handle.new) }
 {
     let Some(mut site) = handle.take(alloc) else {
@@ -373,7 +373,7 @@ pub extern "C" fn txc_commit_write(
     txn: u64,
     stamp: &mut u32,
 ) -> u32
-    ensures { ComesTo (CommitWriteComesTo stamp.old stamp.new txn) (stamp.new ≡ stamp.old)
+    ensures { SiteTransition (SiteCommitWriteTransition stamp.old stamp.new txn) (stamp.new ≡ stamp.old)
         (site_held handle.old) result (site_held handle.new) }
 {
     let Some(mut site) = handle.take(alloc) else {
@@ -387,7 +387,7 @@ pub extern "C" fn txc_commit_write(
 /// Pins the newest state at that wall-clock time, in milliseconds, and writes its stamp.
 #[unsafe(no_mangle)]
 pub extern "C" fn txc_pin(alloc: Global, handle: &mut TxcSite, moment: u64, stamp: &mut u32) -> u32
-    ensures { ComesTo (PinComesTo moment stamp.old stamp.new) (stamp.new ≡ stamp.old)
+    ensures { SiteTransition (SitePinTransition moment stamp.old stamp.new) (stamp.new ≡ stamp.old)
         (site_held handle.old) result (site_held handle.new) }
 {
     let Some(mut site) = handle.take(alloc) else {
@@ -408,7 +408,7 @@ pub extern "C" fn txc_keep(
     age: u64,
     kept: &mut TxcKept,
 ) -> u32
-    ensures { ComesTo (KeepComesTo now age kept.old kept.new) (kept.new ≡ kept.old)
+    ensures { SiteTransition (SiteKeepTransition now age kept.old kept.new) (kept.new ≡ kept.old)
         (site_held handle.old) result (site_held handle.new) }
 {
     let Some(mut site) = handle.take(alloc) else {
@@ -460,7 +460,7 @@ pub extern "C" fn txc_site_trim(
     most: usize,
     dropped: &mut usize,
 ) -> u32
-    ensures { ComesTo (TrimComesTo most dropped.old dropped.new) (dropped.new ≡ dropped.old)
+    ensures { SiteTransition (SiteTrimTransition most dropped.old dropped.new) (dropped.new ≡ dropped.old)
         (site_held handle.old) result (site_held handle.new) }
 {
     let Some(mut site) = handle.take(alloc) else {

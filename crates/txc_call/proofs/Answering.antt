@@ -12,7 +12,7 @@ use Rattle.txc_app.specs.declared.ask.Ask.TheVariants as asks
 use Rattle.txc_app.specs.declared.ask.Answer.{Answer}
 use Rattle.txc_app.specs.declared.ask.Answer.TheVariants as answers
 use Rattle.txc_app.specs.Eval.{Next, eval, met}
-use Rattle.txc_app.specs.Answering.{IsRight, AreRight, queries_of, queries_after, queries_for}
+use Rattle.txc_app.specs.AnswersSoFar.{IsRight, AreRight, queries_of, queries_after, queries_for}
 use Rattle.txc_app.specs.Claims.{RowsHold, ValueHolds}
 use Rattle.txc_app.specs.Laws.{RightAnswersGiveTheValue}
 use Rattle.txc_app.proofs.Offered.{each_push}

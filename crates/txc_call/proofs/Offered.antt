@@ -2,7 +2,7 @@
 use Rattle.std.proofs.Common.{List, subst, None, Some}
 use Rattle.txc_tags.specs.Keys.{Call}
 use Rattle.txc_app.specs.Eval.{Next}
-use Rattle.txc_registry.specs.Objects.{Objects, AllIdle}
+use Rattle.txc_call_registry.specs.Objects.{Objects, AllIdle}
 use Rattle.txc_call.specs.declared.frame.Frame.{Frame}
 use Rattle.txc_call.specs.declared.need.Need.TheVariants.{Value}
 use Rattle.txc_call.specs.declared.need.Outcome.{Outcome}

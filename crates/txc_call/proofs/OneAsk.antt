@@ -7,8 +7,8 @@ use Rattle.txc_app.specs.declared.app.Limits.{Limits}
 use Rattle.txc_app.specs.declared.ask.Ask.{Ask}
 use Rattle.txc_app.specs.declared.ask.Ask.TheVariants as asks
 use Rattle.txc_app.specs.Eval.{Next}
-use Rattle.txc_registry.specs.Activity.{Activity, idle}
-use Rattle.txc_registry.specs.Objects.{Objects, activity_of, with_activity}
+use Rattle.txc_call_registry.specs.Activity.{Activity, idle}
+use Rattle.txc_call_registry.specs.Objects.{Objects, activity_of, with_activity}
 use Rattle.txc_call.specs.declared.error.CallError.{CallError}
 use Rattle.txc_call.specs.declared.error.CallError.TheVariants as errors
 use Rattle.txc_call.specs.declared.frame.Frame.{Frame}
@@ -22,8 +22,8 @@ use Rattle.txc_call.specs.Reaches.{ReachesMeet}
 use Rattle.txc_call.specs.Frames.{given, AreFew}
 use Rattle.txc_call.specs.Needs.{NeedFits, ReplyFits}
 use Rattle.txc_call.proofs.Claims.{meets_none}
-use Rattle.txc_call.specs.Running.{value_need, stays_held, is_done, need_after, objects_after, order_refusal, with_ask, form_refusal, AfterNeed, AfterRan, AfterOneAsk, NeedsFunction, FunctionExists}
-use Rattle.txc_call.specs.Turns.{Onward, Standing, Turn, UnlessRefused, ask_refusal, call_refusal, count_refusal, entry_of_frame, needing, outwards, turn_of, unreached, with_answer, value_held, value_refusal, AfterReply, AllowedTransition, AskTransition, DoneTransition}
+use Rattle.txc_call.specs.CallSteps.{value_need, stays_held, is_done, need_after, objects_after, order_refusal, with_ask, form_refusal, AfterNeed, AfterRan, AfterOneAsk, NeedsFunction, FunctionExists}
+use Rattle.txc_call.specs.MachineTurn.{Onward, Standing, Turn, UnlessRefused, ask_refusal, call_refusal, count_refusal, entry_of_frame, needing, outwards, turn_of, unreached, with_answer, value_held, value_refusal, AfterReply, AllowedTransition, AskTransition, DoneTransition}
 
 -- ---- refusals
 
@@ -87,61 +87,61 @@ module _ (limits : Limits) (outer : List Frame) (asked : ℕ) (frame : Frame) (o
   pub one_allowed : (ask : Ask) (turn : Turn) → None ≡ count_refusal limits.asks frame.answers asked → None ≡ form_refusal limits.value frame.key.function ask
       → AllowedTransition outer (asked + 1) frame ask objects (stays_held outer asked frame turn) turn
       → AfterOneAsk limits outer asked frame ask objects turn
-  one_allowed ask turn counted may leads =
+  one_allowed ask turn counted may transition =
       passed_with (count_refusal limits.asks frame.answers asked) turn
       (UnlessRefused (form_refusal limits.value frame.key.function ask) turn
       (AllowedTransition outer (asked + 1) frame ask objects (stays_held outer asked frame turn) turn)) counted
       (passed_with (form_refusal limits.value frame.key.function ask) turn
-      (AllowedTransition outer (asked + 1) frame ask objects (stays_held outer asked frame turn) turn) may leads)
+      (AllowedTransition outer (asked + 1) frame ask objects (stays_held outer asked frame turn) turn) may transition)
 
   -- ---- refused
 
   no_done : (error : CallError) (bytes : List ℕ) (r : Option Interval) (goes_on : Onward)
       → DoneTransition outer (asked + 1) frame r bytes (with_activity objects frame.key.function idle) (stays_held outer asked frame (Err error)) (Err error)
       → DoneTransition outer (asked + 1) frame r bytes (with_activity objects frame.key.function idle) goes_on (Err error)
-  no_done error bytes (Some r) goes_on leads =
-      absurd (never error outer (asked + 1) (needs.Insert (entry_of_frame frame bytes r)) (with_activity objects frame.key.function idle) leads)
-  no_done error bytes None goes_on leads =
-      absurd (never error outer (asked + 1) (value_need outer (unreached frame bytes)) (with_activity objects frame.key.function idle) leads)
+  no_done error bytes (Some r) goes_on transition =
+      absurd (never error outer (asked + 1) (needs.Insert (entry_of_frame frame bytes r)) (with_activity objects frame.key.function idle) transition)
+  no_done error bytes None goes_on transition =
+      absurd (never error outer (asked + 1) (value_need outer (unreached frame bytes)) (with_activity objects frame.key.function idle) transition)
 
   no_ask : (ask : Ask) (error : CallError) (goes_on : Onward)
       → UnlessRefused (form_refusal limits.value frame.key.function ask) (Err error) (AllowedTransition outer (asked + 1) frame ask objects (stays_held outer asked frame (Err error)) (Err error))
       → UnlessRefused (ask_refusal limits objects frame.key.function ask) (Err error) (AllowedTransition outer (asked + 1) frame ask objects goes_on (Err error))
-  no_ask (asks.Query q) error goes_on leads = absurd (never error (frame ∷ outer) (asked + 1) (needs.Query q) objects leads)
-  no_ask (asks.Call k) error goes_on leads =
+  no_ask (asks.Query q) error goes_on transition = absurd (never error (frame ∷ outer) (asked + 1) (needs.Query q) objects transition)
+  no_ask (asks.Call k) error goes_on transition =
       call_order objects frame.key.function k (nat_le frame.key.function k.function) refl (Err error)
       (AllowedTransition outer (asked + 1) frame (asks.Call k) objects (stays_held outer asked frame (Err error)) (Err error))
       (AllowedTransition outer (asked + 1) frame (asks.Call k) objects goes_on (Err error))
-      leads (never error (frame ∷ outer) (asked + 1) (needs.Lookup k) objects)
-  no_ask (asks.Done bytes) error goes_on leads =
+      transition (never error (frame ∷ outer) (asked + 1) (needs.Lookup k) objects)
+  no_ask (asks.Done bytes) error goes_on transition =
       unless_map (value_refusal limits.value bytes) (Err error)
       (AllowedTransition outer (asked + 1) frame (asks.Done bytes) objects (stays_held outer asked frame (Err error)) (Err error))
       (AllowedTransition outer (asked + 1) frame (asks.Done bytes) objects goes_on (Err error))
-      (no_done error bytes frame.reach goes_on) leads
+      (no_done error bytes frame.reach goes_on) transition
 
   -- an ask that fails by hand fails over a registry too
   pub asks_refused : (ask : Ask) (error : CallError) (goes_on : Onward) → AfterOneAsk limits outer asked frame ask objects (Err error)
       → AskTransition limits outer asked frame ask objects goes_on (Err error)
-  asks_refused ask error goes_on leads =
+  asks_refused ask error goes_on transition =
       unless_map (count_refusal limits.asks frame.answers asked) (Err error)
       (UnlessRefused (form_refusal limits.value frame.key.function ask) (Err error) (AllowedTransition outer (asked + 1) frame ask objects (stays_held outer asked frame (Err error)) (Err error)))
       (UnlessRefused (ask_refusal limits objects frame.key.function ask) (Err error) (AllowedTransition outer (asked + 1) frame ask objects goes_on (Err error)))
-      (no_ask ask error goes_on) leads
+      (no_ask ask error goes_on) transition
 
   -- ---- allowed
 
   module _ (s : Standing) where
     pub counted_of : (ask : Ask) → AfterOneAsk limits outer asked frame ask objects (Ok s) → count_refusal limits.asks frame.answers asked ≡ None
-    counted_of ask leads =
+    counted_of ask transition =
         (let_by (count_refusal limits.asks frame.answers asked) s
-        (UnlessRefused (form_refusal limits.value frame.key.function ask) (Ok s) (AllowedTransition outer (asked + 1) frame ask objects (stays_held outer asked frame (Ok s)) (Ok s))) leads).0
+        (UnlessRefused (form_refusal limits.value frame.key.function ask) (Ok s) (AllowedTransition outer (asked + 1) frame ask objects (stays_held outer asked frame (Ok s)) (Ok s))) transition).0
 
     pub allowed_of : (ask : Ask) → AfterOneAsk limits outer asked frame ask objects (Ok s)
         → (form_refusal limits.value frame.key.function ask ≡ None) × AllowedTransition outer (asked + 1) frame ask objects (stays_held outer asked frame (Ok s)) (Ok s)
-    allowed_of ask leads =
+    allowed_of ask transition =
         let_by (form_refusal limits.value frame.key.function ask) s (AllowedTransition outer (asked + 1) frame ask objects (stays_held outer asked frame (Ok s)) (Ok s))
         ((let_by (count_refusal limits.asks frame.answers asked) s
-        (UnlessRefused (form_refusal limits.value frame.key.function ask) (Ok s) (AllowedTransition outer (asked + 1) frame ask objects (stays_held outer asked frame (Ok s)) (Ok s))) leads).1)
+        (UnlessRefused (form_refusal limits.value frame.key.function ask) (Ok s) (AllowedTransition outer (asked + 1) frame ask objects (stays_held outer asked frame (Ok s)) (Ok s))) transition).1)
 
     needs_by : (fs : List Frame) (n : ℕ) (need other : Need) (os : Objects) → Ok s ≡ needing fs n need os → s.need ≡ Some other → need ≡ other
     needs_by fs n need other os is needed =
@@ -155,20 +155,20 @@ module _ (limits : Limits) (outer : List Frame) (asked : ℕ) (frame : Frame) (o
 
     done_no_lookup : (bytes : List ℕ) (k : Call) (r : Option Interval) → s.need ≡ Some (needs.Lookup k)
         → DoneTransition outer (asked + 1) frame r bytes (with_activity objects frame.key.function idle) (stays_held outer asked frame (Ok s)) (Ok s) → ⊥
-    done_no_lookup bytes k (Some r) needed leads =
-        let no = needs_by outer (asked + 1) (needs.Insert (entry_of_frame frame bytes r)) (needs.Lookup k) (with_activity objects frame.key.function idle) leads needed in absurd (cc)
-    done_no_lookup bytes k None needed leads =
-        hand_no_lookup outer bytes k (needs_by outer (asked + 1) (value_need outer (unreached frame bytes)) (needs.Lookup k) (with_activity objects frame.key.function idle) leads needed)
+    done_no_lookup bytes k (Some r) needed transition =
+        let no = needs_by outer (asked + 1) (needs.Insert (entry_of_frame frame bytes r)) (needs.Lookup k) (with_activity objects frame.key.function idle) transition needed in absurd (cc)
+    done_no_lookup bytes k None needed transition =
+        hand_no_lookup outer bytes k (needs_by outer (asked + 1) (value_need outer (unreached frame bytes)) (needs.Lookup k) (with_activity objects frame.key.function idle) transition needed)
 
     -- a call of a function that does not exist
     absent_by : (ask : Ask) (k : Call) (goes_on : Onward) → s.need ≡ Some (needs.Lookup k) → (IsSome (activity_of objects k.function) → ⊥)
         → count_refusal limits.asks frame.answers asked ≡ None → form_refusal limits.value frame.key.function ask ≡ None
         → AllowedTransition outer (asked + 1) frame ask objects (stays_held outer asked frame (Ok s)) (Ok s)
         → AskTransition limits outer asked frame ask objects goes_on (Err (errors.NoFunction k.function))
-    absent_by (asks.Query q) k goes_on needed none counted may leads =
-        let no = needs_by (frame ∷ outer) (asked + 1) (needs.Query q) (needs.Lookup k) objects leads needed in absurd (cc)
-    absent_by (asks.Call j) k goes_on needed none counted may leads =
-        let is : needs.Lookup j ≡ needs.Lookup k = needs_by (frame ∷ outer) (asked + 1) (needs.Lookup j) (needs.Lookup k) objects leads needed in
+    absent_by (asks.Query q) k goes_on needed none counted may transition =
+        let no = needs_by (frame ∷ outer) (asked + 1) (needs.Query q) (needs.Lookup k) objects transition needed in absurd (cc)
+    absent_by (asks.Call j) k goes_on needed none counted may transition =
+        let is : needs.Lookup j ≡ needs.Lookup k = needs_by (frame ∷ outer) (asked + 1) (needs.Lookup j) (needs.Lookup k) objects transition needed in
         let same : j ≡ k = cc in
         let error : CallError = errors.NoFunction k.function in
         let refusal : Some error ≡ call_refusal objects frame.key.function k =
@@ -180,37 +180,37 @@ module _ (limits : Limits) (outer : List Frame) (asked : ℕ) (frame : Frame) (o
         (refused_with (ask_refusal limits objects frame.key.function (asks.Call j)) error
         (AllowedTransition outer (asked + 1) frame (asks.Call j) objects goes_on (Err error))
         (subst (λ (c : Call). Some error ≡ call_refusal objects frame.key.function c) (sym same) refusal))
-    absent_by (asks.Done bytes) k goes_on needed none counted may leads = absurd (done_no_lookup bytes k frame.reach needed leads)
+    absent_by (asks.Done bytes) k goes_on needed none counted may transition = absurd (done_no_lookup bytes k frame.reach needed transition)
 
     pub asks_absent : (ask : Ask) (k : Call) (goes_on : Onward) → s.need ≡ Some (needs.Lookup k) → (IsSome (activity_of objects k.function) → ⊥)
         → AfterOneAsk limits outer asked frame ask objects (Ok s)
         → AskTransition limits outer asked frame ask objects goes_on (Err (errors.NoFunction k.function))
-    asks_absent ask k goes_on needed none leads =
-        absent_by ask k goes_on needed none (counted_of ask leads) (allowed_of ask leads).0 (allowed_of ask leads).1
+    asks_absent ask k goes_on needed none transition =
+        absent_by ask k goes_on needed none (counted_of ask transition) (allowed_of ask transition).0 (allowed_of ask transition).1
 
     looks_up_by : (ask : Ask) (k : Call) → s.need ≡ Some (needs.Lookup k)
         → AllowedTransition outer (asked + 1) frame ask objects (stays_held outer asked frame (Ok s)) (Ok s)
         → (with_ask objects frame.key.function ask ≡ objects) × (s.frames ≡ frame ∷ outer)
-    looks_up_by (asks.Query q) k needed leads =
-        let no = needs_by (frame ∷ outer) (asked + 1) (needs.Query q) (needs.Lookup k) objects leads needed in absurd (cc)
-    looks_up_by (asks.Call j) k needed leads =
+    looks_up_by (asks.Query q) k needed transition =
+        let no = needs_by (frame ∷ outer) (asked + 1) (needs.Query q) (needs.Lookup k) objects transition needed in absurd (cc)
+    looks_up_by (asks.Call j) k needed transition =
         let e : s ≡ record { frames = frame ∷ outer; asked = asked + 1; need = Some (needs.Lookup j); objects = objects } = cc in
         (refl, ap (λ (st : Standing). st.frames) e)
-    looks_up_by (asks.Done bytes) k needed leads = absurd (done_no_lookup bytes k frame.reach needed leads)
+    looks_up_by (asks.Done bytes) k needed transition = absurd (done_no_lookup bytes k frame.reach needed transition)
 
     -- a call leaves the objects and the frames
     pub looks_up : (ask : Ask) (k : Call) → s.need ≡ Some (needs.Lookup k) → AfterOneAsk limits outer asked frame ask objects (Ok s)
         → (with_ask objects frame.key.function ask ≡ objects) × (s.frames ≡ frame ∷ outer)
-    looks_up ask k needed leads = looks_up_by ask k needed (allowed_of ask leads).1
+    looks_up ask k needed transition = looks_up_by ask k needed (allowed_of ask transition).1
 
     -- ---- no other function continues
 
     settled_done : (next : Next) (bytes : List ℕ) (fs : List Frame) (r : Option Interval) → (NeedsFunction s.need → ⊥)
         → DoneTransition fs (asked + 1) frame r bytes (with_activity objects frame.key.function idle) (stays_held fs asked frame (Ok s)) (Ok s)
         → DoneTransition fs (asked + 1) frame r bytes (with_activity objects frame.key.function idle) (outwards next fs asked frame (Ok s)) (Ok s)
-    settled_done next bytes fs (Some r) stops leads = leads
-    settled_done next bytes [] None stops leads = leads
-    settled_done next bytes (x ∷ fs) None stops leads =
+    settled_done next bytes fs (Some r) stops transition = transition
+    settled_done next bytes [] None stops transition = transition
+    settled_done next bytes (x ∷ fs) None stops transition =
         let e : s ≡ record { frames = x ∷ fs; asked = asked + 1; need = Some (needs.Resume (value_held (unreached frame bytes))); objects = with_activity objects frame.key.function idle } = cc in
         absurd (stops (subst (λ (st : Standing). NeedsFunction st.need) (sym e) tt))
 
@@ -218,26 +218,26 @@ module _ (limits : Limits) (outer : List Frame) (asked : ℕ) (frame : Frame) (o
         → count_refusal limits.asks frame.answers asked ≡ None → form_refusal limits.value frame.key.function ask ≡ None
         → AllowedTransition outer (asked + 1) frame ask objects (stays_held outer asked frame (Ok s)) (Ok s)
         → AskTransition limits outer asked frame ask objects (outwards next outer asked frame (Ok s)) (Ok s)
-    settled_by next (asks.Query q) there stops counted may leads =
+    settled_by next (asks.Query q) there stops counted may transition =
         passed_with (count_refusal limits.asks frame.answers asked) (Ok s)
-        (UnlessRefused None (Ok s) (AllowedTransition outer (asked + 1) frame (asks.Query q) objects (outwards next outer asked frame (Ok s)) (Ok s))) (sym counted) leads
-    settled_by next (asks.Call k) there stops counted may leads =
+        (UnlessRefused None (Ok s) (AllowedTransition outer (asked + 1) frame (asks.Query q) objects (outwards next outer asked frame (Ok s)) (Ok s))) (sym counted) transition
+    settled_by next (asks.Call k) there stops counted may transition =
         let e : s ≡ record { frames = frame ∷ outer; asked = asked + 1; need = Some (needs.Lookup k); objects = objects } = cc in
         let here : IsSome (activity_of objects k.function) = there k (ap (λ (st : Standing). st.need) e) in
         let let_call : None ≡ call_refusal objects frame.key.function k = sym (call_there objects frame.key.function k (nat_le frame.key.function k.function) refl here ∙ may) in
         passed_with (count_refusal limits.asks frame.answers asked) (Ok s)
         (UnlessRefused (call_refusal objects frame.key.function k) (Ok s) (AllowedTransition outer (asked + 1) frame (asks.Call k) objects (outwards next outer asked frame (Ok s)) (Ok s))) (sym counted)
-        (passed_with (call_refusal objects frame.key.function k) (Ok s) (AllowedTransition outer (asked + 1) frame (asks.Call k) objects (outwards next outer asked frame (Ok s)) (Ok s)) let_call leads)
-    settled_by next (asks.Done bytes) there stops counted may leads =
+        (passed_with (call_refusal objects frame.key.function k) (Ok s) (AllowedTransition outer (asked + 1) frame (asks.Call k) objects (outwards next outer asked frame (Ok s)) (Ok s)) let_call transition)
+    settled_by next (asks.Done bytes) there stops counted may transition =
         passed_with (count_refusal limits.asks frame.answers asked) (Ok s)
         (UnlessRefused (value_refusal limits.value bytes) (Ok s) (AllowedTransition outer (asked + 1) frame (asks.Done bytes) objects (outwards next outer asked frame (Ok s)) (Ok s))) (sym counted)
         (passed_with (value_refusal limits.value bytes) (Ok s) (AllowedTransition outer (asked + 1) frame (asks.Done bytes) objects (outwards next outer asked frame (Ok s)) (Ok s)) (sym may)
-        (settled_done next bytes outer frame.reach stops leads))
+        (settled_done next bytes outer frame.reach stops transition))
 
     pub asks_settled : (next : Next) (ask : Ask) → ((k : Call) → s.need ≡ Some (needs.Lookup k) → IsSome (activity_of objects k.function)) → (NeedsFunction s.need → ⊥)
         → AfterOneAsk limits outer asked frame ask objects (Ok s) → AskTransition limits outer asked frame ask objects (outwards next outer asked frame (Ok s)) (Ok s)
-    asks_settled next ask there stops leads =
-        settled_by next ask there stops (counted_of ask leads) (allowed_of ask leads).0 (allowed_of ask leads).1
+    asks_settled next ask there stops transition =
+        settled_by next ask there stops (counted_of ask transition) (allowed_of ask transition).0 (allowed_of ask transition).1
 
     -- ---- the frame around continues
 
@@ -265,11 +265,11 @@ module _ (limits : Limits) (outer : List Frame) (asked : ℕ) (frame : Frame) (o
         → count_refusal limits.asks frame.answers asked ≡ None → value_refusal limits.value bytes ≡ None
         → DoneTransition outer (asked + 1) frame r bytes (with_activity objects frame.key.function idle) (stays_held outer asked frame (Ok s)) (Ok s)
         → IsHeld (asks.Done bytes) x
-    handed_done bytes x (Some r) is needed counted short leads =
-        let no = needs_by outer (asked + 1) (needs.Insert (entry_of_frame frame bytes r)) (needs.Resume x) (with_activity objects frame.key.function idle) leads needed in absurd (cc)
-    handed_done bytes x None is needed counted short leads =
+    handed_done bytes x (Some r) is needed counted short transition =
+        let no = needs_by outer (asked + 1) (needs.Insert (entry_of_frame frame bytes r)) (needs.Resume x) (with_activity objects frame.key.function idle) transition needed in absurd (cc)
+    handed_done bytes x None is needed counted short transition =
         let e : s ≡ record { frames = outer; asked = asked + 1; need = Some (value_need outer (unreached frame bytes)); objects = with_activity objects frame.key.function idle } = cc in
-        let two = held_value bytes outer x (needs_by outer (asked + 1) (value_need outer (unreached frame bytes)) (needs.Resume x) (with_activity objects frame.key.function idle) leads needed) in
+        let two = held_value bytes outer x (needs_by outer (asked + 1) (value_need outer (unreached frame bytes)) (needs.Resume x) (with_activity objects frame.key.function idle) transition needed) in
         record {
           bytes = bytes;
           is = refl;
@@ -284,14 +284,14 @@ module _ (limits : Limits) (outer : List Frame) (asked : ℕ) (frame : Frame) (o
 
     handed_by : (ask : Ask) (x : HeldAnswer) → s.need ≡ Some (needs.Resume x) → count_refusal limits.asks frame.answers asked ≡ None → form_refusal limits.value frame.key.function ask ≡ None
         → AllowedTransition outer (asked + 1) frame ask objects (stays_held outer asked frame (Ok s)) (Ok s) → IsHeld ask x
-    handed_by (asks.Query q) x needed counted may leads =
-        let no = needs_by (frame ∷ outer) (asked + 1) (needs.Query q) (needs.Resume x) objects leads needed in absurd (cc)
-    handed_by (asks.Call k) x needed counted may leads =
-        let no = needs_by (frame ∷ outer) (asked + 1) (needs.Lookup k) (needs.Resume x) objects leads needed in absurd (cc)
-    handed_by (asks.Done bytes) x needed counted may leads = handed_done bytes x frame.reach refl needed counted may leads
+    handed_by (asks.Query q) x needed counted may transition =
+        let no = needs_by (frame ∷ outer) (asked + 1) (needs.Query q) (needs.Resume x) objects transition needed in absurd (cc)
+    handed_by (asks.Call k) x needed counted may transition =
+        let no = needs_by (frame ∷ outer) (asked + 1) (needs.Lookup k) (needs.Resume x) objects transition needed in absurd (cc)
+    handed_by (asks.Done bytes) x needed counted may transition = handed_done bytes x frame.reach refl needed counted may transition
 
     pub held_for : (ask : Ask) (x : HeldAnswer) → s.need ≡ Some (needs.Resume x) → AfterOneAsk limits outer asked frame ask objects (Ok s) → IsHeld ask x
-    held_for ask x needed leads = handed_by ask x needed (counted_of ask leads) (allowed_of ask leads).0 (allowed_of ask leads).1
+    held_for ask x needed transition = handed_by ask x needed (counted_of ask transition) (allowed_of ask transition).0 (allowed_of ask transition).1
 
     -- ---- no function begins at once
 
@@ -301,43 +301,43 @@ module _ (limits : Limits) (outer : List Frame) (asked : ℕ) (frame : Frame) (o
 
     done_begins_none : (bytes : List ℕ) (k : Call) (r : Option Interval) → s.need ≡ Some (needs.Begin k)
         → DoneTransition outer (asked + 1) frame r bytes (with_activity objects frame.key.function idle) (stays_held outer asked frame (Ok s)) (Ok s) → ⊥
-    done_begins_none bytes k (Some r) needed leads =
-        let no = needs_by outer (asked + 1) (needs.Insert (entry_of_frame frame bytes r)) (needs.Begin k) (with_activity objects frame.key.function idle) leads needed in absurd (cc)
-    done_begins_none bytes k None needed leads =
-        hand_begins_none outer (unreached frame bytes) k (needs_by outer (asked + 1) (value_need outer (unreached frame bytes)) (needs.Begin k) (with_activity objects frame.key.function idle) leads needed)
+    done_begins_none bytes k (Some r) needed transition =
+        let no = needs_by outer (asked + 1) (needs.Insert (entry_of_frame frame bytes r)) (needs.Begin k) (with_activity objects frame.key.function idle) transition needed in absurd (cc)
+    done_begins_none bytes k None needed transition =
+        hand_begins_none outer (unreached frame bytes) k (needs_by outer (asked + 1) (value_need outer (unreached frame bytes)) (needs.Begin k) (with_activity objects frame.key.function idle) transition needed)
 
     begins_none_by : (ask : Ask) (k : Call) → s.need ≡ Some (needs.Begin k)
         → AllowedTransition outer (asked + 1) frame ask objects (stays_held outer asked frame (Ok s)) (Ok s) → ⊥
-    begins_none_by (asks.Query q) k needed leads =
-        let no = needs_by (frame ∷ outer) (asked + 1) (needs.Query q) (needs.Begin k) objects leads needed in absurd (cc)
-    begins_none_by (asks.Call j) k needed leads =
-        let no = needs_by (frame ∷ outer) (asked + 1) (needs.Lookup j) (needs.Begin k) objects leads needed in absurd (cc)
-    begins_none_by (asks.Done bytes) k needed leads = done_begins_none bytes k frame.reach needed leads
+    begins_none_by (asks.Query q) k needed transition =
+        let no = needs_by (frame ∷ outer) (asked + 1) (needs.Query q) (needs.Begin k) objects transition needed in absurd (cc)
+    begins_none_by (asks.Call j) k needed transition =
+        let no = needs_by (frame ∷ outer) (asked + 1) (needs.Lookup j) (needs.Begin k) objects transition needed in absurd (cc)
+    begins_none_by (asks.Done bytes) k needed transition = done_begins_none bytes k frame.reach needed transition
 
     pub begins_none : (ask : Ask) (k : Call) → s.need ≡ Some (needs.Begin k) → AfterOneAsk limits outer asked frame ask objects (Ok s) → ⊥
-    begins_none ask k needed leads = begins_none_by ask k needed (allowed_of ask leads).1
+    begins_none ask k needed transition = begins_none_by ask k needed (allowed_of ask transition).1
 
     -- ---- all functions exist
 
     there_by : (ask : Ask) → FunctionExists objects ask → count_refusal limits.asks frame.answers asked ≡ None → form_refusal limits.value frame.key.function ask ≡ None
         → AllowedTransition outer (asked + 1) frame ask objects (stays_held outer asked frame (Ok s)) (Ok s)
         → AskTransition limits outer asked frame ask objects (stays_held outer asked frame (Ok s)) (Ok s)
-    there_by (asks.Query q) there counted may leads =
+    there_by (asks.Query q) there counted may transition =
         passed_with (count_refusal limits.asks frame.answers asked) (Ok s)
-        (UnlessRefused None (Ok s) (AllowedTransition outer (asked + 1) frame (asks.Query q) objects (stays_held outer asked frame (Ok s)) (Ok s))) (sym counted) leads
-    there_by (asks.Call k) there counted may leads =
+        (UnlessRefused None (Ok s) (AllowedTransition outer (asked + 1) frame (asks.Query q) objects (stays_held outer asked frame (Ok s)) (Ok s))) (sym counted) transition
+    there_by (asks.Call k) there counted may transition =
         let let_call : None ≡ call_refusal objects frame.key.function k = sym (call_there objects frame.key.function k (nat_le frame.key.function k.function) refl there ∙ may) in
         passed_with (count_refusal limits.asks frame.answers asked) (Ok s)
         (UnlessRefused (call_refusal objects frame.key.function k) (Ok s) (AllowedTransition outer (asked + 1) frame (asks.Call k) objects (stays_held outer asked frame (Ok s)) (Ok s))) (sym counted)
-        (passed_with (call_refusal objects frame.key.function k) (Ok s) (AllowedTransition outer (asked + 1) frame (asks.Call k) objects (stays_held outer asked frame (Ok s)) (Ok s)) let_call leads)
-    there_by (asks.Done bytes) there counted may leads =
+        (passed_with (call_refusal objects frame.key.function k) (Ok s) (AllowedTransition outer (asked + 1) frame (asks.Call k) objects (stays_held outer asked frame (Ok s)) (Ok s)) let_call transition)
+    there_by (asks.Done bytes) there counted may transition =
         passed_with (count_refusal limits.asks frame.answers asked) (Ok s)
         (UnlessRefused (value_refusal limits.value bytes) (Ok s) (AllowedTransition outer (asked + 1) frame (asks.Done bytes) objects (stays_held outer asked frame (Ok s)) (Ok s))) (sym counted)
-        (passed_with (value_refusal limits.value bytes) (Ok s) (AllowedTransition outer (asked + 1) frame (asks.Done bytes) objects (stays_held outer asked frame (Ok s)) (Ok s)) (sym may) leads)
+        (passed_with (value_refusal limits.value bytes) (Ok s) (AllowedTransition outer (asked + 1) frame (asks.Done bytes) objects (stays_held outer asked frame (Ok s)) (Ok s)) (sym may) transition)
 
     pub asks_there : (ask : Ask) → FunctionExists objects ask → AfterOneAsk limits outer asked frame ask objects (Ok s)
         → AskTransition limits outer asked frame ask objects (stays_held outer asked frame (Ok s)) (Ok s)
-    asks_there ask there leads = there_by ask there (counted_of ask leads) (allowed_of ask leads).0 (allowed_of ask leads).1
+    asks_there ask there transition = there_by ask there (counted_of ask transition) (allowed_of ask transition).0 (allowed_of ask transition).1
 
 -- the objects after what was asked, by a test
 pub with_ask_by : (objects os : Objects) (f g : ℕ) (ask : Ask) (b : Bool) → g ≡ f → b ≡ is_done ask → os ≡ (if b then with_activity objects g idle else objects) → os ≡ with_ask objects f ask
@@ -354,9 +354,9 @@ pub ran_resume : (limits : Limits) (frames frames' : List Frame) (asked : ℕ) (
     → ((frame : Frame) (outer : List Frame) → frames ≡ frame ∷ outer → frames' ≡ given frame x.reach x.tags ∷ outer)
     → ((frame : Frame) (outer : List Frame) (os : Objects) → frames' ≡ frame ∷ outer → AfterOneAsk limits outer asked frame ask os (turn_of r stack n (with_ask os frame.key.function ask)))
     → AfterRan limits frames asked objects (needs.Resume x) ask (turn_of r stack n (objects_after objects frames (needs.Resume x) ask))
-ran_resume limits [] frames' asked x ask objects r stack n some is leads = absurd (some refl)
-ran_resume limits (frame ∷ outer) frames' asked x ask objects r stack n some is leads =
-    inr (leads (given frame x.reach x.tags) outer (with_answer objects frame.key.function x.answer) (is frame outer refl))
+ran_resume limits [] frames' asked x ask objects r stack n some is transition = absurd (some refl)
+ran_resume limits (frame ∷ outer) frames' asked x ask objects r stack n some is transition =
+    inr (transition (given frame x.reach x.tags) outer (with_answer objects frame.key.function x.answer) (is frame outer refl))
 
 -- the first of frames that each asked no more than they may
 pub first_few : (most : ℕ) (fs : List Frame) → fs ≢ [] → AreFew most fs → (x : Frame) × (rest : List Frame) × (fs ≡ x ∷ rest) × (x.answers < most) × ReachesMeet x.reach None
@@ -369,30 +369,30 @@ first_few most (x ∷ xs) some few = (x, xs, refl, few.0, meets_none x.reach)
 pub replied_onward : (next : Next) (top : Call) (frames : List Frame) (asked : ℕ) (objects : Objects) (need : Need) (reply : Reply) (turn : Turn)
     → NeedFits next objects top (Some need) frames → ReplyFits need reply
     → AfterNeed next frames asked objects (need_after frames need reply) turn → AfterReply next frames asked objects need reply turn
-replied_onward next top frames asked objects (needs.Lookup k) replies.Miss turn fits ok leads = leads
-replied_onward next top [] asked objects (needs.Lookup k) (replies.Hit hit) turn fits ok leads = leads
-replied_onward next top (frame ∷ outer) asked objects (needs.Lookup k) (replies.Hit hit) turn fits ok leads = leads
-replied_onward next top frames asked objects (needs.Lookup k) (replies.Found found) turn fits ok leads = absurd ok
-replied_onward next top frames asked objects (needs.Lookup k) replies.Inserted turn fits ok leads = absurd ok
-replied_onward next top [] asked objects (needs.Query q) (replies.Found found) turn fits ok leads = absurd (fits.1 refl)
-replied_onward next top (frame ∷ outer) asked objects (needs.Query q) (replies.Found found) turn fits ok leads = leads
-replied_onward next top frames asked objects (needs.Query q) replies.Miss turn fits ok leads = absurd ok
-replied_onward next top frames asked objects (needs.Query q) (replies.Hit hit) turn fits ok leads = absurd ok
-replied_onward next top frames asked objects (needs.Query q) replies.Inserted turn fits ok leads = absurd ok
-replied_onward next top [] asked objects (needs.Insert e) replies.Inserted turn fits ok leads = leads
-replied_onward next top (frame ∷ outer) asked objects (needs.Insert e) replies.Inserted turn fits ok leads = leads
-replied_onward next top frames asked objects (needs.Insert e) replies.Miss turn fits ok leads = absurd ok
-replied_onward next top frames asked objects (needs.Insert e) (replies.Hit hit) turn fits ok leads = absurd ok
-replied_onward next top frames asked objects (needs.Insert e) (replies.Found found) turn fits ok leads = absurd ok
-replied_onward next top frames asked objects (needs.Value o) replies.Miss turn fits ok leads = absurd ok
-replied_onward next top frames asked objects (needs.Value o) (replies.Hit hit) turn fits ok leads = absurd ok
-replied_onward next top frames asked objects (needs.Value o) (replies.Found found) turn fits ok leads = absurd ok
-replied_onward next top frames asked objects (needs.Value o) replies.Inserted turn fits ok leads = absurd ok
-replied_onward next top frames asked objects (needs.Begin k) replies.Miss turn fits ok leads = absurd ok
-replied_onward next top frames asked objects (needs.Begin k) (replies.Hit hit) turn fits ok leads = absurd ok
-replied_onward next top frames asked objects (needs.Begin k) (replies.Found found) turn fits ok leads = absurd ok
-replied_onward next top frames asked objects (needs.Begin k) replies.Inserted turn fits ok leads = absurd ok
-replied_onward next top frames asked objects (needs.Resume x) replies.Miss turn fits ok leads = absurd ok
-replied_onward next top frames asked objects (needs.Resume x) (replies.Hit hit) turn fits ok leads = absurd ok
-replied_onward next top frames asked objects (needs.Resume x) (replies.Found found) turn fits ok leads = absurd ok
-replied_onward next top frames asked objects (needs.Resume x) replies.Inserted turn fits ok leads = absurd ok
+replied_onward next top frames asked objects (needs.Lookup k) replies.Miss turn fits ok transition = transition
+replied_onward next top [] asked objects (needs.Lookup k) (replies.Hit hit) turn fits ok transition = transition
+replied_onward next top (frame ∷ outer) asked objects (needs.Lookup k) (replies.Hit hit) turn fits ok transition = transition
+replied_onward next top frames asked objects (needs.Lookup k) (replies.Found found) turn fits ok transition = absurd ok
+replied_onward next top frames asked objects (needs.Lookup k) replies.Inserted turn fits ok transition = absurd ok
+replied_onward next top [] asked objects (needs.Query q) (replies.Found found) turn fits ok transition = absurd (fits.1 refl)
+replied_onward next top (frame ∷ outer) asked objects (needs.Query q) (replies.Found found) turn fits ok transition = transition
+replied_onward next top frames asked objects (needs.Query q) replies.Miss turn fits ok transition = absurd ok
+replied_onward next top frames asked objects (needs.Query q) (replies.Hit hit) turn fits ok transition = absurd ok
+replied_onward next top frames asked objects (needs.Query q) replies.Inserted turn fits ok transition = absurd ok
+replied_onward next top [] asked objects (needs.Insert e) replies.Inserted turn fits ok transition = transition
+replied_onward next top (frame ∷ outer) asked objects (needs.Insert e) replies.Inserted turn fits ok transition = transition
+replied_onward next top frames asked objects (needs.Insert e) replies.Miss turn fits ok transition = absurd ok
+replied_onward next top frames asked objects (needs.Insert e) (replies.Hit hit) turn fits ok transition = absurd ok
+replied_onward next top frames asked objects (needs.Insert e) (replies.Found found) turn fits ok transition = absurd ok
+replied_onward next top frames asked objects (needs.Value o) replies.Miss turn fits ok transition = absurd ok
+replied_onward next top frames asked objects (needs.Value o) (replies.Hit hit) turn fits ok transition = absurd ok
+replied_onward next top frames asked objects (needs.Value o) (replies.Found found) turn fits ok transition = absurd ok
+replied_onward next top frames asked objects (needs.Value o) replies.Inserted turn fits ok transition = absurd ok
+replied_onward next top frames asked objects (needs.Begin k) replies.Miss turn fits ok transition = absurd ok
+replied_onward next top frames asked objects (needs.Begin k) (replies.Hit hit) turn fits ok transition = absurd ok
+replied_onward next top frames asked objects (needs.Begin k) (replies.Found found) turn fits ok transition = absurd ok
+replied_onward next top frames asked objects (needs.Begin k) replies.Inserted turn fits ok transition = absurd ok
+replied_onward next top frames asked objects (needs.Resume x) replies.Miss turn fits ok transition = absurd ok
+replied_onward next top frames asked objects (needs.Resume x) (replies.Hit hit) turn fits ok transition = absurd ok
+replied_onward next top frames asked objects (needs.Resume x) (replies.Found found) turn fits ok transition = absurd ok
+replied_onward next top frames asked objects (needs.Resume x) replies.Inserted turn fits ok transition = absurd ok

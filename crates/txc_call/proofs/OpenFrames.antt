@@ -11,33 +11,33 @@ use Rattle.txc_app.specs.declared.ask.Ask.{Ask}
 use Rattle.txc_app.specs.declared.ask.Ask.TheVariants as asks
 use Rattle.txc_app.specs.declared.ask.Answer.{Answer}
 use Rattle.txc_app.specs.Eval.{Next}
-use Rattle.txc_app.specs.Answering.{IsRight}
+use Rattle.txc_app.specs.AnswersSoFar.{IsRight}
 use Rattle.txc_app.specs.Claims.{ValueHolds}
 use Rattle.txc_app.specs.Laws.{RightAnswersGiveTheValue}
 use Rattle.txc_app.proofs.Offered.{each_none}
-use Rattle.txc_registry.specs.Activity.{Activation, Activity, activation_in, answered, begun, idle, next_of, running, WantsAnswer}
-use Rattle.txc_registry.specs.Objects.{Objects, activation_of, activity_of, with_activity, AllIdle, IsAskingAt}
-use Rattle.txc_registry.proofs.Offered.{here_after, again, restored, elsewhere, idle_there}
+use Rattle.txc_call_registry.specs.Activity.{Activation, Activity, activation_in, answered, begun, idle, next_of, running, WantsAnswer}
+use Rattle.txc_call_registry.specs.Objects.{Objects, activation_of, activity_of, with_activity, AllIdle, IsAskingAt}
+use Rattle.txc_call_registry.proofs.Offered.{here_after, again, restored, elsewhere, idle_there}
 use Rattle.txc_call.specs.declared.frame.Frame.{Frame}
 use Rattle.txc_call.specs.Reaches.{InReach, ReachesMeet, meet}
-use Rattle.txc_call.specs.Frames.{answers_in, AnswersHold, AreFew, FrameAsks, IsStack, IsRising, AreRising, released, IsOpen, AnswerHolds, FramesHold, InAll, AreUnreached, begun_frame, given}
+use Rattle.txc_call.specs.Frames.{answers_in, AnswersHold, AreFew, FrameAsks, IsStack, FramesAscendFrom, FramesAscend, released, IsOpen, AnswerHolds, FramesHold, InAll, AreUnreached, begun_frame, given}
 use Rattle.txc_call.proofs.Claims.{in_meet}
 use Rattle.txc_call.proofs.Answering.{answers_more, done_holds}
 
 -- ---- the functions of the frames
 
-rising_from : (f g : ℕ) (fs : List Frame) → f ≤ g → IsRising g fs → IsRising f fs
+rising_from : (f g : ℕ) (fs : List Frame) → f ≤ g → FramesAscendFrom g fs → FramesAscendFrom f fs
 rising_from f g [] le h = tt
 rising_from f g (x ∷ fs) le h = let before = h.0 in (omega (arith, before), h.1)
 
-pub rising_all : (f : ℕ) (fs : List Frame) → IsRising f fs → AreRising fs
+pub rising_all : (f : ℕ) (fs : List Frame) → FramesAscendFrom f fs → FramesAscend fs
 rising_all f [] h = tt
 rising_all f (x ∷ fs) h = h.1
 
-next_rising : (f : ℕ) (x : Frame) (fs : List Frame) → IsRising f (x ∷ fs) → IsRising f fs
+next_rising : (f : ℕ) (x : Frame) (fs : List Frame) → FramesAscendFrom f (x ∷ fs) → FramesAscendFrom f fs
 next_rising f x fs h = let before = h.0 in rising_from f x.key.function fs (omega (arith, before)) h.1
 
-apart : (f : ℕ) (x : Frame) (fs : List Frame) → IsRising f (x ∷ fs) → x.key.function ≢ f
+apart : (f : ℕ) (x : Frame) (fs : List Frame) → FramesAscendFrom f (x ∷ fs) → x.key.function ≢ f
 apart f x fs h = let before = h.0 in omega (arith, before)
 
 -- ---- the answers that an object was given, by what it does
@@ -65,25 +65,25 @@ module _ (f : ℕ) (new : Activity) where
         counted = ap (λ (xs : List Answer). length xs) answers ∙ h.counted;
       }
 
-  stack_else : (next : Next) (os : Objects) (top : Call) (ask : Ask) (fs : List Frame) → IsRising f fs → IsStack next os top ask fs → IsStack next (with_activity os f new) top ask fs
+  stack_else : (next : Next) (os : Objects) (top : Call) (ask : Ask) (fs : List Frame) → FramesAscendFrom f fs → IsStack next os top ask fs → IsStack next (with_activity os f new) top ask fs
   stack_else next os top ask [] up h = h
   stack_else next os top ask (x ∷ fs) up h =
       (asking_else next os ask x (apart f x fs up) h.0, stack_else next os top (asks.Call x.key) fs (next_rising f x fs up) h.1)
 
-  pub hold_else : (next : Next) (L : History) (os : Objects) (fs : List Frame) → IsRising f fs → FramesHold next L os fs → FramesHold next L (with_activity os f new) fs
+  pub hold_else : (next : Next) (L : History) (os : Objects) (fs : List Frame) → FramesAscendFrom f fs → FramesHold next L os fs → FramesHold next L (with_activity os f new) fs
   hold_else next L os [] up h = h
   hold_else next L os (x ∷ fs) up h =
       let answers = answers_by (with_activity os f new) os x.key.function x.key.function (same_else os x.key.function (apart f x fs up)) in
       (subst (λ (xs : List Answer). AnswersHold next L x.key xs x.reach x.tags) (sym answers) h.0, hold_else next L os fs (next_rising f x fs up) h.1)
 
-released_else : (g : ℕ) (fs : List Frame) (os : Objects) → IsRising g fs → activity_of (released fs os) g ≡ activity_of os g
+released_else : (g : ℕ) (fs : List Frame) (os : Objects) → FramesAscendFrom g fs → activity_of (released fs os) g ≡ activity_of os g
 released_else g [] os up = refl
 released_else g (x ∷ fs) os up =
     released_else g fs (with_activity os x.key.function idle) (next_rising g x fs up)
     ∙ elsewhere x.key.function g idle (λ e. apart g x fs up (sym e)) os
 
 -- an object below every open frame is idle
-pub free_below : (g : ℕ) (fs : List Frame) (os : Objects) → IsRising g fs → AllIdle (released fs os) → IsSome (activity_of os g) → activity_of os g ≡ Some idle
+pub free_below : (g : ℕ) (fs : List Frame) (os : Objects) → FramesAscendFrom g fs → AllIdle (released fs os) → IsSome (activity_of os g) → activity_of os g ≡ Some idle
 free_below g fs os up free there =
     let same = released_else g fs os up in
     sym same ∙ idle_there (released fs os) g free (rw same there)
@@ -92,7 +92,7 @@ free_below g fs os up free there =
 
 module _ (next : Next) (os : Objects) (top : Call) where
   -- a frame is opened for the call that is asked for
-  pub opened : (k : Call) (ask : Ask) (fs : List Frame) → IsOpen next os top (asks.Call k) fs → IsRising k.function fs → activity_of os k.function ≡ Some idle
+  pub opened : (k : Call) (ask : Ask) (fs : List Frame) → IsOpen next os top (asks.Call k) fs → FramesAscendFrom k.function fs → activity_of os k.function ≡ Some idle
       → next.says k.function k.args [] ≡ Some ask
       → IsOpen next (with_activity os k.function (running (begun k.args))) top ask (begun_frame k ∷ fs)
   opened k ask fs h up free asked =
@@ -146,7 +146,7 @@ module _ (next : Next) (os : Objects) (top : Call) where
 -- ---- meaning
 
 module _ (next : Next) (L : History) (os : Objects) where
-  pub hold_opened : (k : Call) (fs : List Frame) → IsRising k.function fs → activity_of os k.function ≡ Some idle → FramesHold next L os fs
+  pub hold_opened : (k : Call) (fs : List Frame) → FramesAscendFrom k.function fs → activity_of os k.function ≡ Some idle → FramesHold next L os fs
       → FramesHold next L (with_activity os k.function (running (begun k.args))) (begun_frame k ∷ fs)
   hold_opened k fs up free h =
       let here : activity_of (with_activity os k.function (running (begun k.args))) k.function ≡ Some (running (begun k.args)) = here_after k.function os idle (running (begun k.args)) free in
@@ -200,13 +200,13 @@ not_empty fs rest frame is none = let e : frame ∷ rest ≡ [] = sym is ∙ non
 -- ---- the same, by what the calls promise
 
 module _ (next : Next) (os os' : Objects) (top : Call) (fs fs' : List Frame) where
-  pub opened_at : (k : Call) (ask : Ask) (f : ℕ) (args : List ℕ) → IsOpen next os top (asks.Call k) fs → IsRising k.function fs → activity_of os k.function ≡ Some idle
+  pub opened_at : (k : Call) (ask : Ask) (f : ℕ) (args : List ℕ) → IsOpen next os top (asks.Call k) fs → FramesAscendFrom k.function fs → activity_of os k.function ≡ Some idle
       → f ≡ k.function → args ≡ k.args → next_of (next.says f) (begun args) ≡ Some ask
       → os' ≡ with_activity os f (running (begun args)) → fs' ≡ begun_frame k ∷ fs → IsOpen next os' top ask fs'
   opened_at k ask f args h up free is_f is_args asked objects frames =
       rw (objects, frames, is_f, is_args) (opened next os top k ask fs h up free (rw (is_f, is_args) at asked))
 
-  pub hold_opened_at : (L : History) (k : Call) (f : ℕ) (args : List ℕ) → IsRising k.function fs → activity_of os k.function ≡ Some idle
+  pub hold_opened_at : (L : History) (k : Call) (f : ℕ) (args : List ℕ) → FramesAscendFrom k.function fs → activity_of os k.function ≡ Some idle
       → f ≡ k.function → args ≡ k.args → os' ≡ with_activity os f (running (begun args)) → fs' ≡ begun_frame k ∷ fs
       → FramesHold next L os fs → FramesHold next L os' fs'
   hold_opened_at L k f args up free is_f is_args objects frames h =

@@ -12,10 +12,10 @@ use Rattle.txc_app.specs.declared.ask.Ask.{Ask}
 use Rattle.txc_app.specs.declared.ask.Ask.TheVariants as asks
 use Rattle.txc_app.specs.declared.ask.Answer.TheVariants as answers
 use Rattle.txc_app.specs.Eval.{Next}
-use Rattle.txc_registry.specs.declared.cacheable.CallFault.{CallFault}
-use Rattle.txc_registry.specs.declared.cacheable.CallFault.TheVariants as faults
-use Rattle.txc_registry.specs.Activity.{idle}
-use Rattle.txc_registry.specs.Objects.{Objects, with_activity}
+use Rattle.txc_call_registry.specs.declared.cacheable.CallFault.{CallFault}
+use Rattle.txc_call_registry.specs.declared.cacheable.CallFault.TheVariants as faults
+use Rattle.txc_call_registry.specs.Activity.{idle}
+use Rattle.txc_call_registry.specs.Objects.{Objects, with_activity}
 use Rattle.txc_call.specs.declared.error.CallError.{CallError}
 use Rattle.txc_call.specs.declared.error.CallError.TheVariants as errors
 use Rattle.txc_call.specs.declared.frame.Frame.{Frame}
@@ -24,8 +24,8 @@ use Rattle.txc_call.specs.declared.need.Need.{Need}
 use Rattle.txc_call.specs.declared.need.Need.TheVariants as needs
 use Rattle.txc_call.specs.declared.need.Outcome.{Outcome}
 use Rattle.txc_call.specs.Frames.{given, AreFew}
-use Rattle.txc_call.specs.Running.{AfterNeed}
-use Rattle.txc_call.specs.Turns.{value_held, Turn, Onward, count_refusal, value_refusal, ask_refusal, error_of, next_ask, turn_of, unreached, with_answer, AfterAsk, AfterRows, AfterValue, AllowedTransition, AskTransition, DoneTransition, IsBeginRefusal, IsOutOfMemory, UnlessRefused}
+use Rattle.txc_call.specs.CallSteps.{AfterNeed}
+use Rattle.txc_call.specs.MachineTurn.{value_held, Turn, Onward, count_refusal, value_refusal, ask_refusal, error_of, next_ask, turn_of, unreached, with_answer, AfterAsk, AfterRows, AfterValue, AllowedTransition, AskTransition, DoneTransition, IsBeginRefusal, IsOutOfMemory, UnlessRefused}
 
 -- ---- refusals
 
@@ -53,10 +53,10 @@ module _ (limits : Limits) (outer : List Frame) (asked : ℕ) (frame : Frame) (a
   -- an ask that is made
   pub asked_for : (turn : Turn) → None ≡ count_refusal limits.asks frame.answers asked → None ≡ ask_refusal limits objects frame.key.function ask
       → AllowedTransition outer (asked + 1) frame ask objects goes_on turn → AskTransition limits outer asked frame ask objects goes_on turn
-  asked_for turn counted may leads =
+  asked_for turn counted may transition =
       allowed_for (count_refusal limits.asks frame.answers asked) turn
       (UnlessRefused (ask_refusal limits objects frame.key.function ask) turn (AllowedTransition outer (asked + 1) frame ask objects goes_on turn)) counted
-      (allowed_for (ask_refusal limits objects frame.key.function ask) turn (AllowedTransition outer (asked + 1) frame ask objects goes_on turn) may leads)
+      (allowed_for (ask_refusal limits objects frame.key.function ask) turn (AllowedTransition outer (asked + 1) frame ask objects goes_on turn) may transition)
 
 -- an ask that is counted was not one too many
 pub few_by : (most own all : ℕ) → None ≡ count_refusal most own all → own < most
@@ -102,11 +102,11 @@ module _ (next : Next) (asked : ℕ) where
       → ((frame : Frame) (outer : List Frame) → frames ≡ frame ∷ outer → next_ask next objects frame (answers.Value o.value) ≡ Some ask)
       → ((frame : Frame) (outer : List Frame) → frames' ≡ frame ∷ outer → AfterAsk next outer asked frame ask objects' turn)
       → AfterValue next frames asked o objects turn
-  value_onward [] frames' o ask objects objects' turn some stack becomes asks leads = absurd (some refl)
-  value_onward (frame ∷ outer) frames' o ask objects objects' turn some stack becomes asks leads = inr (
+  value_onward [] frames' o ask objects objects' turn some stack becomes asks transition = absurd (some refl)
+  value_onward (frame ∷ outer) frames' o ask objects objects' turn some stack becomes asks transition = inr (
     ask,
     asks frame outer refl,
-    subst (λ (os : Objects). AfterAsk next outer asked (given frame o.reach o.tags) ask os turn) (becomes frame outer refl) (leads (given frame o.reach o.tags) outer (stack frame outer refl)),
+    subst (λ (os : Objects). AfterAsk next outer asked (given frame o.reach o.tags) ask os turn) (becomes frame outer refl) (transition (given frame o.reach o.tags) outer (stack frame outer refl)),
   )
 
   -- what was found reaches the innermost frame, which asks this next
@@ -116,13 +116,13 @@ module _ (next : Next) (asked : ℕ) where
       → ((frame : Frame) (outer : List Frame) → frames ≡ frame ∷ outer → next_ask next objects frame (answers.Rows rows) ≡ Some ask)
       → ((frame : Frame) (outer : List Frame) → frames' ≡ frame ∷ outer → AfterAsk next outer asked frame ask objects' turn)
       → AfterRows next frames asked found objects turn
-  rows_onward [] frames' found rows ask objects objects' turn is some stack becomes asks leads = absurd (some refl)
-  rows_onward (frame ∷ outer) frames' found rows ask objects objects' turn is some stack becomes asks leads = inr (
+  rows_onward [] frames' found rows ask objects objects' turn is some stack becomes asks transition = absurd (some refl)
+  rows_onward (frame ∷ outer) frames' found rows ask objects objects' turn is some stack becomes asks transition = inr (
     ask,
     subst (λ (rs : List RowValue). next_ask next objects frame (answers.Rows rs) ≡ Some ask) is (asks frame outer refl),
     subst (λ (os : Objects). AfterAsk next outer asked (given frame (Some found.reach) found.tags) ask os turn)
         (becomes frame outer refl ∙ ap (λ (rs : List RowValue). with_answer objects frame.key.function (answers.Rows rs)) is)
-        (leads (given frame (Some found.reach) found.tags) outer (stack frame outer refl)),
+        (transition (given frame (Some found.reach) found.tags) outer (stack frame outer refl)),
   )
 
   -- a held answer that reaches a frame
@@ -132,18 +132,18 @@ module _ (next : Next) (asked : ℕ) where
       → ((frame : Frame) (outer : List Frame) → frames ≡ frame ∷ outer → next_ask next objects frame x.answer ≡ Some ask)
       → ((frame : Frame) (outer : List Frame) → frames' ≡ frame ∷ outer → AfterAsk next outer asked frame ask objects' turn)
       → AfterNeed next frames asked objects (needs.Resume x) turn
-  held_onward [] frames' x ask objects objects' turn some stack becomes asks leads = absurd (some refl)
-  held_onward (frame ∷ outer) frames' x ask objects objects' turn some stack becomes asks leads = inr (
+  held_onward [] frames' x ask objects objects' turn some stack becomes asks transition = absurd (some refl)
+  held_onward (frame ∷ outer) frames' x ask objects objects' turn some stack becomes asks transition = inr (
     ask,
     asks frame outer refl,
-    subst (λ (os : Objects). AfterAsk next outer asked (given frame x.reach x.tags) ask os turn) (becomes frame outer refl) (leads (given frame x.reach x.tags) outer (stack frame outer refl)),
+    subst (λ (os : Objects). AfterAsk next outer asked (given frame x.reach x.tags) ask os turn) (becomes frame outer refl) (transition (given frame x.reach x.tags) outer (stack frame outer refl)),
   )
 
   -- the effect of a held value is that of the value
   pub value_of_held : (frames : List Frame) (o : Outcome) (objects : Objects) (turn : Turn) → frames ≢ []
       → AfterNeed next frames asked objects (needs.Resume (value_held o)) turn → AfterValue next frames asked o objects turn
-  value_of_held [] o objects turn some leads = absurd (some refl)
-  value_of_held (frame ∷ outer) o objects turn some leads = leads
+  value_of_held [] o objects turn some transition = absurd (some refl)
+  value_of_held (frame ∷ outer) o objects turn some transition = transition
 
   -- a value that finds no memory
   pub value_out : (frames : List Frame) (o : Outcome) (objects : Objects) (error : CallError) → frames ≢ [] → IsOutOfMemory error

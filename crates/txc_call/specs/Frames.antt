@@ -10,10 +10,10 @@ use Rattle.txc_app.specs.declared.ask.Ask.{Ask}
 use Rattle.txc_app.specs.declared.ask.Ask.TheVariants as asks
 use Rattle.txc_app.specs.declared.ask.Answer.{Answer}
 use Rattle.txc_app.specs.Eval.{Next}
-use Rattle.txc_app.specs.Answering.{IsRight, AreRight, queries_of, queries_for}
+use Rattle.txc_app.specs.AnswersSoFar.{IsRight, AreRight, queries_of, queries_for}
 use Rattle.txc_app.specs.Claims.{HoldsOver}
-use Rattle.txc_registry.specs.Activity.{idle, running}
-use Rattle.txc_registry.specs.Objects.{Objects, activation_of, activity_of, with_activity, AllIdle}
+use Rattle.txc_call_registry.specs.Activity.{idle, running}
+use Rattle.txc_call_registry.specs.Objects.{Objects, activation_of, activity_of, with_activity, AllIdle}
 use Rattle.txc_call.specs.declared.frame.Frame.{Frame}
 use Rattle.txc_call.specs.Reaches.{InReach, meet}
 
@@ -38,13 +38,13 @@ IsStack next objects top ask (frame ∷ frames) =
     FrameAsks next objects ask frame × IsStack next objects top (asks.Call frame.key) frames
 
 -- each is of a greater function than the one inside it, the innermost of a greater one than f
-abbrev pub IsRising : ℕ → List Frame → Type 0
-IsRising f [] = Unit {0}
-IsRising f (frame ∷ frames) = (f < frame.key.function) × IsRising frame.key.function frames
+abbrev pub FramesAscendFrom : ℕ → List Frame → Type 0
+FramesAscendFrom f [] = Unit {0}
+FramesAscendFrom f (frame ∷ frames) = (f < frame.key.function) × FramesAscendFrom frame.key.function frames
 
-abbrev pub AreRising : List Frame → Type 0
-AreRising [] = Unit {0}
-AreRising (frame ∷ frames) = IsRising frame.key.function frames
+abbrev pub FramesAscend : List Frame → Type 0
+FramesAscend [] = Unit {0}
+FramesAscend (frame ∷ frames) = FramesAscendFrom frame.key.function frames
 
 -- the objects once each frame is released, the innermost first
 abbrev pub released : List Frame → Objects → Objects
@@ -55,7 +55,7 @@ released (frame ∷ frames) objects = released frames (with_activity objects fra
 pub record IsOpen (next : Next) (objects : Objects) (top : Call) (ask : Ask) (frames : List Frame) :
     Type 0 where
   pub stack : IsStack next objects top ask frames
-  pub rising : AreRising frames
+  pub rising : FramesAscend frames
   pub free : AllIdle (released frames objects)
 
 -- each was given fewer answers than it may ask for, so that its last ask was allowed

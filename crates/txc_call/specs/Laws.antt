@@ -5,14 +5,14 @@ use Rattle.txc_db.specs.History.{History}
 use Rattle.txc_node.specs.declared.entry.Entry.{Entry}
 use Rattle.txc_app.specs.Eval.{Next}
 use Rattle.txc_app.specs.Claims.{IsTrueIn, ValueHolds}
-use Rattle.txc_registry.specs.Objects.{Objects, activity_of, AllIdle}
+use Rattle.txc_call_registry.specs.Objects.{Objects, activity_of, AllIdle}
 use Rattle.txc_call.specs.declared.need.Need.{Need}
 use Rattle.txc_call.specs.declared.need.Need.TheVariants as needs
 use Rattle.txc_call.specs.declared.need.Outcome.{Outcome}
 use Rattle.txc_call.specs.declared.reply.Reply.{Reply}
 use Rattle.txc_call.specs.Reaches.{InReach}
 use Rattle.txc_call.specs.Needs.{reply_reach, InNeed, ReplyHolds}
-use Rattle.txc_call.specs.Turns.{Standing, AfterReply}
+use Rattle.txc_call.specs.MachineTurn.{Standing, AfterReply}
 
 -- a reply to what the call needs, which is right in the history, and holds together with what the call was
 -- given before, leads it on
@@ -21,13 +21,13 @@ pub record IsLedBy (next : Next) (L : History) (s : Standing) (reply : Reply) (a
   pub needed : s.need ≡ Some need
   pub right : ReplyHolds next L need reply
   pub common : (t : ℕ) × InReach t (reply_reach reply) × InNeed t s.need s.frames
-  pub leads : AfterReply next s.frames s.asked s.objects need reply (Ok after)
+  pub transition : AfterReply next s.frames s.asked s.objects need reply (Ok after)
 
 -- such replies lead it on, one after the other
-abbrev pub IsLed : Next → History → Standing → List Reply → Standing → Type 0
-IsLed next L s [] end = end ≡ s
-IsLed next L s (reply ∷ replies) end =
-    (after : Standing) × IsLedBy next L s reply after × IsLed next L after replies end
+abbrev pub IsAfterReplies : Next → History → Standing → List Reply → Standing → Type 0
+IsAfterReplies next L s [] end = end ≡ s
+IsAfterReplies next L s (reply ∷ replies) end =
+    (after : Standing) × IsLedBy next L s reply after × IsAfterReplies next L after replies end
 
 -- a call that was just started
 abbrev pub at_start : Call → Objects → Standing
@@ -38,7 +38,7 @@ pub record IsLedFrom (next : Next) (L : History) (k : Call) (objects : Objects) 
     Type 0 where
   pub all_idle : AllIdle objects
   pub there : IsSome (activity_of objects k.function)
-  pub led : IsLed next L (at_start k objects) replies s
+  pub led : IsAfterReplies next L (at_start k objects) replies s
 
 -- The value of the call at its end holds: it is the call's uncached value at each stamp of its reach, or
 -- everywhere, if it has no reach. And all objects are idle again.

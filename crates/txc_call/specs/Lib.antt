@@ -1,8 +1,8 @@
-pub mod Reaches
-pub mod Frames
-pub mod Needs
-pub mod Turns
-pub mod Calling
-pub mod Running
-pub mod Laws
+pub mod CallMachine
+pub mod CallSteps
 pub mod Codes
+pub mod Frames
+pub mod Laws
+pub mod MachineTurn
+pub mod Needs
+pub mod Reaches

@@ -6,10 +6,10 @@ use Rattle.txc_db.specs.History.{History}
 use Rattle.txc_app.specs.declared.ask.Ask.{Ask}
 use Rattle.txc_app.specs.declared.ask.Ask.TheVariants as asks
 use Rattle.txc_app.specs.Eval.{Next}
-use Rattle.txc_app.specs.Answering.{IsRight, queries_of}
+use Rattle.txc_app.specs.AnswersSoFar.{IsRight, queries_of}
 use Rattle.txc_app.specs.Claims.{HoldsOver, RowsHold, ValueHolds, IsTrueIn}
-use Rattle.txc_registry.specs.Activity.{WantsAnswer}
-use Rattle.txc_registry.specs.Objects.{Objects, activity_of, AllIdle}
+use Rattle.txc_call_registry.specs.Activity.{WantsAnswer}
+use Rattle.txc_call_registry.specs.Objects.{Objects, activity_of, AllIdle}
 use Rattle.txc_call.specs.declared.frame.Frame.{Frame}
 use Rattle.txc_call.specs.declared.need.HeldAnswer.{HeldAnswer}
 use Rattle.txc_call.specs.declared.need.Need.{Need}
@@ -17,7 +17,7 @@ use Rattle.txc_call.specs.declared.need.Need.TheVariants as needs
 use Rattle.txc_call.specs.declared.reply.Reply.{Reply}
 use Rattle.txc_call.specs.declared.reply.Reply.TheVariants as replies
 use Rattle.txc_call.specs.Reaches.{InReach}
-use Rattle.txc_call.specs.Frames.{answers_in, AreFew, AreUnreached, FramesHold, InAll, IsOpen, IsRising}
+use Rattle.txc_call.specs.Frames.{answers_in, AreFew, AreUnreached, FramesHold, InAll, IsOpen, FramesAscendFrom}
 
 -- ---- needs
 
@@ -31,16 +31,16 @@ pub record IsWaiting (next : Next) (objects : Objects) (top : Call) (ask : Ask) 
 abbrev pub NeedFits : Next → Objects → Call → Option Need → List Frame → Type 0
 NeedFits next objects top None frames = (frames ≡ []) × AllIdle objects
 NeedFits next objects top (Some (needs.Lookup k)) frames =
-    IsWaiting next objects top (asks.Call k) frames × IsRising k.function frames
+    IsWaiting next objects top (asks.Call k) frames × FramesAscendFrom k.function frames
     × IsSome (activity_of objects k.function)
 NeedFits next objects top (Some (needs.Query q)) frames =
     IsWaiting next objects top (asks.Query q) frames × (frames ≢ [])
 NeedFits next objects top (Some (needs.Insert e)) frames =
-    IsWaiting next objects top (asks.Call e.key) frames × IsRising e.key.function frames
+    IsWaiting next objects top (asks.Call e.key) frames × FramesAscendFrom e.key.function frames
 NeedFits next objects top (Some (needs.Value o)) frames =
     IsWaiting next objects top (asks.Call o.key) frames × (frames ≡ [])
 NeedFits next objects top (Some (needs.Begin k)) frames =
-    IsWaiting next objects top (asks.Call k) frames × IsRising k.function frames
+    IsWaiting next objects top (asks.Call k) frames × FramesAscendFrom k.function frames
     × IsSome (activity_of objects k.function)
 NeedFits next objects top (Some (needs.Resume x)) frames =
     ((ask : Ask) × IsWaiting next objects top ask frames × WantsAnswer (Some ask)) × (frames ≢ [])

@@ -2,21 +2,21 @@ ghost use Rattle.std.specs.Prelude.{◌≡◌, ◌≢◌, ◌+◌, ◌<◌, ◌�
 ghost use Rattle.std.specs.Prelude.{IfErr, IfOk, IsSome, MatchOption, OnErr, OnOk, Some};
 ghost use Rattle.std.specs.Result.{result_err};
 ghost use Rattle.txc_app.specs.declared.ask.Ask.{Ask};
-ghost use Rattle.txc_registry.specs.Activity.{idle, WantsAnswer};
-ghost use Rattle.txc_registry.specs.Objects.{activity_of, numbers_of, with_activity, AllIdle};
+ghost use Rattle.txc_call_registry.specs.Activity.{idle, WantsAnswer};
+ghost use Rattle.txc_call_registry.specs.Objects.{activity_of, numbers_of, with_activity, AllIdle};
 ghost use Rattle.txc_call.specs.declared.frame.Frame.{Frame};
 ghost use Rattle.txc_call.specs.declared.frames.TheConstants.{MAX_CALL_ASKS};
 ghost use Rattle.txc_call.specs.Reaches.{ReachesMeet};
-ghost use Rattle.txc_call.specs.Frames.{begun_frame, given, released, IsOpen, IsRising};
-ghost use Rattle.txc_call.specs.Turns.{count_refusal, error_of, next_ask, with_answer, with_begun};
-ghost use Rattle.txc_call.specs.Turns.{IsBeginRefusal, IsOutOfMemory};
+ghost use Rattle.txc_call.specs.Frames.{begun_frame, given, released, IsOpen, FramesAscendFrom};
+ghost use Rattle.txc_call.specs.MachineTurn.{count_refusal, error_of, next_ask, with_answer, with_begun};
+ghost use Rattle.txc_call.specs.MachineTurn.{IsBeginRefusal, IsOutOfMemory};
 
 use crate::error::CallError;
 use crate::frame::Frame;
 use crate::stack::Stack;
 use std::alloc::Global;
 use txc_app::{Answer, App, Ask};
-use txc_registry::{Cacheable, CallFault, Registry};
+use txc_call_registry::{Cacheable, CallFault, Registry};
 use txc_stamp::Reach;
 use txc_tags::{Key, TagSet};
 
@@ -96,7 +96,7 @@ impl Frames {
     }
 
     /// Begins the function of a call that no node has, and opens a frame for it.
-    #[tactic(auto, using(txc_registry::proofs::Offered::numbers_stay))]
+    #[tactic(auto, using(txc_call_registry::proofs::Offered::numbers_stay))]
     pub(crate) fn begin<A: App, C: Cacheable>(
         &mut self,
         registry: &mut Registry<A, C>,
@@ -104,7 +104,7 @@ impl Frames {
         key: Key,
     ) -> Result<Ask, CallError>
         requires open { IsOpen A.next registry.old self.old.top (Ask.Call key) self.old.stack }
-        requires rising { IsRising key.function self.old.stack }
+        requires rising { FramesAscendFrom key.function self.old.stack }
         requires there { IsSome (activity_of registry.old key.function) }
         ensures frame { OnOk result (self.new.stack ≡ begun_frame key ∷ self.old.stack) }
         ensures objects { OnOk result (registry.new ≡ with_begun registry.old key) }
@@ -130,7 +130,7 @@ impl Frames {
     }
 
     /// Gives the innermost frame an answer, and continues its object.
-    #[tactic(auto, using(txc_registry::proofs::Offered::numbers_stay))]
+    #[tactic(auto, using(txc_call_registry::proofs::Offered::numbers_stay))]
     pub(crate) fn resume<A: App, C: Cacheable>(
         &mut self,
         registry: &mut Registry<A, C>,
@@ -181,7 +181,7 @@ impl Frames {
     }
 
     /// Releases the object of every open frame, the innermost first.
-    #[tactic(auto, using(txc_registry::proofs::Offered::numbers_stay))]
+    #[tactic(auto, using(txc_call_registry::proofs::Offered::numbers_stay))]
     pub(crate) fn cancel<A: App, C: Cacheable>(&mut self, registry: &mut Registry<A, C>)
         requires { AllIdle (released self.old.stack registry.old) }
         ensures idle { AllIdle registry.new }

@@ -5,17 +5,17 @@ ghost use Rattle.txc_db.specs.History.{History};
 ghost use Rattle.txc_node.specs.declared.value.TheConstants.{MOST_VALUE_LEN};
 ghost use Rattle.txc_app.specs.declared.app.TheConstants.{MOST_ASKS};
 ghost use Rattle.txc_app.specs.Eval.{Next};
-ghost use Rattle.txc_registry.specs.Objects.{activity_of, numbers_of, AllIdle, Objects};
+ghost use Rattle.txc_call_registry.specs.Objects.{activity_of, numbers_of, AllIdle, Objects};
 ghost use Rattle.txc_call.specs.declared.frames.TheConstants.{MAX_CALL_ASKS};
 ghost use Rattle.txc_call.specs.Reaches.{InReach};
 ghost use Rattle.txc_call.specs.Frames.{released};
 ghost use Rattle.txc_call.specs.Needs.{reply_reach, InNeed, NeedFits, ReplyFits, ReplyHolds};
-ghost use Rattle.txc_call.specs.Calling.{started, turn_after, CallHolds, CallIsUnreached};
-ghost use Rattle.txc_call.specs.Calling.{GoesOn, InCall, IsAtRest, IsCalling};
+ghost use Rattle.txc_call.specs.CallMachine.{started, turn_after, CallHolds, CallIsUnreached};
+ghost use Rattle.txc_call.specs.CallMachine.{GoesOn, InCall, IsAtRest, IsCalling};
 ghost use Rattle.txc_call.specs.declared.need.Outcome.{Outcome};
 ghost use Rattle.txc_app.specs.declared.ask.Ask.{Ask};
-ghost use Rattle.txc_call.specs.Running.{computing, need_after, due_ask, objects_after, with_resumed, AfterRan, NeedsFunction, FunctionExists, StepKeeps};
-ghost use Rattle.txc_call.specs.Turns.{turn_of, AfterReply};
+ghost use Rattle.txc_call.specs.CallSteps.{computing, need_after, due_ask, objects_after, with_resumed, AfterRan, NeedsFunction, FunctionExists, StepKeeps};
+ghost use Rattle.txc_call.specs.MachineTurn.{turn_of, AfterReply};
 
 use crate::error::CallError;
 use crate::frames::Frames;
@@ -29,7 +29,7 @@ use std::marker::Model;
 use std::mem;
 use txc_app::laws::right_answers_give_the_value;
 use txc_app::{App, Ask, Limits};
-use txc_registry::{Cacheable, Registry};
+use txc_call_registry::{Cacheable, Registry};
 use txc_tags::Key;
 
 /// Runs calls, one after another. Its caller replies to each need of the call, until the call has its value.
@@ -45,7 +45,7 @@ pub struct CallMachine {
 }
 
 impl Model for CallMachine {
-    ghost use Rattle.txc_call.specs.Calling.{Calling};
+    ghost use Rattle.txc_call.specs.CallMachine.{Calling};
 
     ghost Value = { Calling };
 

@@ -1,12 +1,12 @@
 //! Runs the functions of a call by the objects of a registry, until the call needs something else.
 ghost use Rattle.std.specs.Prelude.{◌≡◌, ◌≢◌, ℕ, List, [], ◌∷◌, drop, if◌then◌else◌, IfOk, OnErr, Some};
-ghost use Rattle.txc_registry.specs.Activity.{idle};
-ghost use Rattle.txc_registry.specs.Objects.{numbers_of, with_activity, AllIdle};
+ghost use Rattle.txc_call_registry.specs.Activity.{idle};
+ghost use Rattle.txc_call_registry.specs.Objects.{numbers_of, with_activity, AllIdle};
 ghost use Rattle.txc_call.specs.declared.frame.Frame.{Frame};
 ghost use Rattle.txc_call.specs.Frames.{released, AreFew, IsOpen};
 ghost use Rattle.txc_call.specs.Needs.{InNeed, NeedFits};
-ghost use Rattle.txc_call.specs.Running.{AfterNeed, NeedsFunction};
-ghost use Rattle.txc_call.specs.Turns.{turn_of, AfterAsk};
+ghost use Rattle.txc_call.specs.CallSteps.{AfterNeed, NeedsFunction};
+ghost use Rattle.txc_call.specs.MachineTurn.{turn_of, AfterAsk};
 
 use crate::error::CallError;
 use crate::frames::Frames;
@@ -14,10 +14,10 @@ use crate::need::{HeldAnswer, Need};
 use crate::settling::{is_done, settle};
 use std::alloc::Global;
 use txc_app::{App, Ask};
-use txc_registry::{Cacheable, Registry};
+use txc_call_registry::{Cacheable, Registry};
 
 // Releases the function's object if it is done.
-#[tactic(auto, using(txc_registry::proofs::Offered::numbers_stay))]
+#[tactic(auto, using(txc_call_registry::proofs::Offered::numbers_stay))]
 fn release_done<A: App, C: Cacheable>(registry: &mut Registry<A, C>, function: u8, is_done: bool)
     ensures after { registry.new ≡ (if is_done then with_activity registry.old function idle else registry.old) }
     ensures functions { numbers_of registry.new ≡ numbers_of registry.old }
@@ -28,7 +28,7 @@ fn release_done<A: App, C: Cacheable>(registry: &mut Registry<A, C>, function: u
 }
 
 // Takes the step of the innermost frame's object, and runs the objects until the call needs something else.
-#[tactic(auto, using(txc_registry::proofs::Offered::numbers_stay))]
+#[tactic(auto, using(txc_call_registry::proofs::Offered::numbers_stay))]
 fn go_on<A: App, C: Cacheable>(
     frames: &mut Frames,
     registry: &mut Registry<A, C>,

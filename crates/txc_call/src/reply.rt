@@ -1,4 +1,4 @@
-use txc_node::Shown;
+use txc_node::HitValue;
 use txc_validity::Found;
 
 /// Reply to a need.
@@ -7,7 +7,7 @@ pub enum Reply {
     /// To a lookup: no node has the call.
     Miss,
     /// To a lookup: the entry that a node has of the call.
-    Hit(Shown),
+    Hit(HitValue),
     /// To a query: the database's answer.
     Found(Found),
     /// To an insertion: it was made, or the entry was dropped.

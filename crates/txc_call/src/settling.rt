@@ -2,11 +2,11 @@
 ghost use Rattle.std.specs.Prelude.{◌≡◌, ◌≢◌, ◌≤◌, List, [], ◌∷◌, OnErr};
 ghost use Rattle.std.specs.Result.{result_err};
 ghost use Rattle.txc_node.specs.declared.value.TheConstants.{MOST_VALUE_LEN};
-ghost use Rattle.txc_registry.specs.Objects.{Objects};
+ghost use Rattle.txc_call_registry.specs.Objects.{Objects};
 ghost use Rattle.txc_call.specs.declared.frame.Frame.{Frame};
 ghost use Rattle.txc_call.specs.Needs.{ReplyFits};
-ghost use Rattle.txc_call.specs.Running.{value_need, is_done, need_after, order_refusal, with_ask, AfterOneAsk};
-ghost use Rattle.txc_call.specs.Turns.{turn_of};
+ghost use Rattle.txc_call.specs.CallSteps.{value_need, is_done, need_after, order_refusal, with_ask, AfterOneAsk};
+ghost use Rattle.txc_call.specs.MachineTurn.{turn_of};
 
 use crate::error::CallError;
 use crate::frame::Frame;
@@ -14,7 +14,7 @@ use crate::frames::Frames;
 use crate::need::{HeldAnswer, Need, Outcome};
 use crate::reply::Reply;
 use txc_app::{Answer, Ask, Limits, Rows};
-use txc_node::{Entry, Shown, Value};
+use txc_node::{Entry, HitValue, Value};
 use txc_tags::Key;
 use txc_validity::Found;
 
@@ -76,7 +76,7 @@ pub(crate) fn need_after(frames: &Frames, need: Need, reply: Reply) -> Need
 {
     match (need, reply) {
         (Need::Lookup(key), Reply::Miss) => Need::Begin(key),
-        (Need::Lookup(key), Reply::Hit(Shown { reach, value, tags })) => {
+        (Need::Lookup(key), Reply::Hit(HitValue { reach, value, tags })) => {
             let outcome = Outcome {
                 key,
                 value,

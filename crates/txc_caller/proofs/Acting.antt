@@ -3,27 +3,27 @@ use Rattle.std.proofs.Common.{◌≡◌, ◌≢◌, ◌∙◌, ◌⊎◌, ℕ, �
 use Rattle.std.specs.Prelude.{IfSome, IsSome, Result}
 use Rattle.txc_tags.specs.Keys.{Call}
 use Rattle.txc_rows.specs.declared.query.Query.{Query}
-use Rattle.txc_node.specs.declared.hit.Shown.{Shown}
+use Rattle.txc_node.specs.declared.hit.HitValue.{HitValue}
 use Rattle.txc_cushion.specs.declared.pin.Pin.{Pin}
 use Rattle.txc_cushion.specs.Cushion.{after_add}
 use Rattle.txc_db.specs.Calls.{IsQueryRefused, IsUnpinRefused}
 use Rattle.txc_db.specs.DatabaseValue.{DatabaseValue}
-use Rattle.txc_db.specs.Seen.{FrontValue}
+use Rattle.txc_db.specs.FrontsAndFeeds.{FrontValue}
 use Rattle.txc_db.specs.declared.answered.Answered.{Answered}
 use Rattle.txc_db.specs.declared.error.DbError.{DbError}
 use Rattle.txc_db.specs.declared.pinned.Pinned.{Pinned}
 use Rattle.txc_pinset.specs.Members.{choice_of, kept, PinSetValue}
 use Rattle.txc_pinset.specs.declared.choice.Choice.TheVariants.{Present}
-use Rattle.txc_ports.specs.declared.recorded.Recorded.{Recorded}
+use Rattle.txc_txn_ports.specs.declared.recorded.Recorded.{Recorded}
 use Rattle.txc_app.specs.declared.app.Limits.{Limits}
 use Rattle.txc_app.specs.declared.ask.Ask.{Ask}
 use Rattle.txc_app.specs.declared.ask.Ask.TheVariants as asks
 use Rattle.txc_app.specs.Eval.{Next}
-use Rattle.txc_registry.specs.Objects.{activity_of, Objects}
+use Rattle.txc_call_registry.specs.Objects.{activity_of, Objects}
 use Rattle.txc_shared.specs.Nodes.{NodeValue}
-use Rattle.txc_call.specs.Calling.{Calling}
-use Rattle.txc_call.specs.Running.{need_after, value_need, AfterRan, NeedsFunction}
-use Rattle.txc_call.specs.Turns.{Turn as CallTurn}
+use Rattle.txc_call.specs.CallMachine.{Calling}
+use Rattle.txc_call.specs.CallSteps.{need_after, value_need, AfterRan, NeedsFunction}
+use Rattle.txc_call.specs.MachineTurn.{Turn as CallTurn}
 use Rattle.txc_call.specs.declared.error.CallError.{CallError}
 use Rattle.txc_call.specs.declared.frame.Frame.{Frame}
 use Rattle.txc_call.specs.declared.need.Need.{Need}
@@ -31,31 +31,31 @@ use Rattle.txc_call.specs.declared.need.Need.TheVariants as needs
 use Rattle.txc_call.specs.declared.need.Outcome.{Outcome}
 use Rattle.txc_call.specs.declared.reply.Reply.{Reply}
 use Rattle.txc_call.specs.declared.reply.Reply.TheVariants as replies
-use Rattle.txc_ports.specs.Asking.{IsAnsweredRight}
-use Rattle.txc_ports.specs.Exchanges.{Exchange, reply_of, request_of}
-use Rattle.txc_ports.specs.Exchanges as exchanges
-use Rattle.txc_ports.proofs.Offered.{both_exchange, by_exchange}
-use Rattle.txc_ports.specs.Refusals.{refused_call, refused_pin, refused_request}
-use Rattle.txc_ports.specs.Turns.{PortTurn, IsAsk}
-use Rattle.txc_ports.specs.declared.error.TxnError.{TxnError}
-use Rattle.txc_ports.specs.declared.error.TxnError.TheVariants.{Memory}
-use Rattle.txc_ports.specs.declared.request.PortRequest.{PortRequest}
-use Rattle.txc_ports.specs.declared.request.PortRequest.TheVariants as requests
-use Rattle.txc_ports.specs.declared.reply.PortReply.{PortReply}
-use Rattle.txc_ports.specs.declared.turn.Turn.TheVariants.{Ask as Asks, Ended}
+use Rattle.txc_txn_ports.specs.PortRequests.{IsAnsweredRight}
+use Rattle.txc_txn_ports.specs.Exchanges.{Exchange, reply_of, request_of}
+use Rattle.txc_txn_ports.specs.Exchanges as exchanges
+use Rattle.txc_txn_ports.proofs.Offered.{both_exchange, by_exchange}
+use Rattle.txc_txn_ports.specs.Refusals.{refused_call, refused_pin, refused_request}
+use Rattle.txc_txn_ports.specs.Turns.{PortTurn, IsAsk}
+use Rattle.txc_txn_ports.specs.declared.error.TxnError.{TxnError}
+use Rattle.txc_txn_ports.specs.declared.error.TxnError.TheVariants.{Memory}
+use Rattle.txc_txn_ports.specs.declared.request.PortRequest.{PortRequest}
+use Rattle.txc_txn_ports.specs.declared.request.PortRequest.TheVariants as requests
+use Rattle.txc_txn_ports.specs.declared.reply.PortReply.{PortReply}
+use Rattle.txc_txn_ports.specs.declared.turn.Turn.TheVariants.{Ask as Asks, Ended}
 use Rattle.txc_txn.specs.declared.pinning.Pinning.{Pinning}
 use Rattle.txc_txn.specs.declared.pinning.PinStep.{PinStep}
 use Rattle.txc_txn.specs.declared.pinning.PinStep.TheVariants.{Asked, Dropping}
 use Rattle.txc_txn.specs.ByHand.{FirstExists, HandTransition, HandTurn, HasAskedByHand, HasGoneOnByHand, HasSameCall, HitByHand, IsHandTurn, IsUnended, TakeTransition}
-use Rattle.txc_txn.specs.Core.{first_call, least_present, left_pin, running_call, CoreAsks, CoreValue, IsCore, IsIdle, IsNoAdding, IsTurn, PinningFits, WaitsForPin}
-use Rattle.txc_txn.specs.Kept.{HasBegunCall, TxnValue}
+use Rattle.txc_txn.specs.TxnCore.{first_call, least_present, left_pin, running_call, CoreAsks, CoreValue, IsCore, IsIdle, IsNoAdding, IsTurn, PinningFits, WaitsForPin}
+use Rattle.txc_txn.specs.RunningTxn.{HasBegunCall, TxnValue}
 use Rattle.txc_txn.specs.Transitions.{AsksLookup, AsksPin, IsBeyond, IsWanting, PresentPinTransition}
-use Rattle.txc_caller.specs.Acting.{step_error, ActLeads, HasGivenPin, IsNodeAsked, IsNodeStepFor, IsRefusedPinned, IsRefusedUnpinned, PinsFirst}
+use Rattle.txc_caller.specs.CallerAct.{step_error, CallerActTransition, HasGivenPin, IsNodeAsked, IsNodeStepFor, IsRefusedPinned, IsRefusedUnpinned, PinsFirst}
 use Rattle.txc_caller.specs.Ports.{is_of_pin, CallerExchangeTransition, CallerPorts, CallerUnpinTransition, HasAskedPorts, HasPinnedForCaller, HasRefusedPin, IsLetGo}
-use Rattle.txc_caller.specs.Reading.{chosen_stamp, read_stamp}
-use Rattle.txc_caller.specs.Serving.{coming_need, need_to_come, pins_to_come, turn_error, AddedLeads, AddLeads, GivenLeads, IsNeedRefused, IsNeedStep, LastLeads, LeadsBy, StillLeads, TurnLeads, UngivenLeads}
-use Rattle.txc_caller.specs.Telling.{calls_of, computed_calls, computed_in, ended_step}
-use Rattle.txc_caller.specs.Writing.{IsAskedQueryRefused}
+use Rattle.txc_caller.specs.CallerTxn.{chosen_stamp, read_stamp}
+use Rattle.txc_caller.specs.ActRequests.{coming_need, need_to_come, pins_to_come, turn_error, AddedTransition, ActAddTransition, GivenTransition, IsNeedRefused, IsNeedStep, LastTransition, TransitionBy, StillTransition, TurnTransition, UngivenTransition}
+use Rattle.txc_caller.specs.ComputedFunctions.{calls_of, computed_calls, computed_in, ended_step}
+use Rattle.txc_caller.specs.CallerWrite.{IsAskedQueryRefused}
 use Rattle.txc_caller.proofs.Lent.{some_need}
 use Rattle.txc_caller.proofs.Making.{not_pinning}
 use Rattle.txc_caller.proofs.Requests.{both_pinning, one_step}
@@ -83,13 +83,13 @@ node_unasked computed ask old new is = record { same = all_same old new is; step
 -- a hold was taken away, or the database refused
 unpinned_so : {A : Type 0} (stamp : ℕ) (old new : CallerPorts) (r : Result A DbError) → CallerUnpinTransition stamp old new r
     → IsLetGo (Some stamp) old.database new.database × (new ≡ record old { database = new.database })
-unpinned_so stamp old new (Ok it) leads = (
-  inl (ap (λ (p : CallerPorts). p.database) leads.0),
-  leads.0 ∙ ap (λ (d : DatabaseValue). record old { database = d }) (sym (ap (λ (p : CallerPorts). p.database) leads.0)),
+unpinned_so stamp old new (Ok it) transition = (
+  inl (ap (λ (p : CallerPorts). p.database) transition.0),
+  transition.0 ∙ ap (λ (d : DatabaseValue). record old { database = d }) (sym (ap (λ (p : CallerPorts). p.database) transition.0)),
 )
-unpinned_so stamp old new (Err e) leads = (
-  inr (ap (λ (p : CallerPorts). p.database) leads.0, (e, leads.1)),
-  leads.0 ∙ ap (λ (d : DatabaseValue). record old { database = d }) (sym (ap (λ (p : CallerPorts). p.database) leads.0)),
+unpinned_so stamp old new (Err e) transition = (
+  inr (ap (λ (p : CallerPorts). p.database) transition.0, (e, transition.1)),
+  transition.0 ∙ ap (λ (d : DatabaseValue). record old { database = d }) (sym (ap (λ (p : CallerPorts). p.database) transition.0)),
 )
 
 -- the turn that asks what a node has of a call asks
@@ -99,7 +99,7 @@ asks_lookup k (Ended outcome) asks = absurd asks
 
 -- with no pin under way it is the last request
 last_turn : (d : CoreValue) (q : CallerPorts) (t : PortTurn) → d.pinning ≡ None → IsTurn d t → IsAsk t → (new : CallerPorts) (taken : List ℕ) (failed : Option TxnError)
-    → TurnLeads d q (Some t) new taken failed → LastLeads d q new taken failed
+    → TurnTransition d q (Some t) new taken failed → LastTransition d q new taken failed
 last_turn d q (Asks (requests.Pin now at_least)) none fits on new taken failed h = absurd (both_pinning d _ fits.0 none)
 last_turn d q (Asks (requests.AddPin pinned)) none fits on new taken failed h = absurd (both_pinning d _ fits none)
 last_turn d q (Asks (requests.Unpin stamp)) none fits on new taken failed h = absurd (both_pinning d _ fits.1 none)
@@ -111,20 +111,20 @@ last_turn d q (Ended outcome) none fits on new taken failed h = absurd on
 module _ (c d : CoreValue) (p q : CallerPorts) (objects : Objects) where
   -- the last request that comes after a pin is for what was to come
   present_last : (first : Option Call) (t : PortTurn) → FirstExists objects first → IsTurn d t → PresentPinTransition first c objects d objects t
-      → (new : CallerPorts) (taken : List ℕ) (failed : Option TxnError) → TurnLeads d q (Some t) new taken failed
-      → LastLeads d q new taken failed × (d.call.need ≡ coming_need first c.call.need)
-  present_last None t there fits leads new taken failed h = (
-    last_turn d q t leads.0.none fits leads.1 new taken failed h,
-    ap (λ (m : Calling). m.need) leads.0.same_call,
+      → (new : CallerPorts) (taken : List ℕ) (failed : Option TxnError) → TurnTransition d q (Some t) new taken failed
+      → LastTransition d q new taken failed × (d.call.need ≡ coming_need first c.call.need)
+  present_last None t there fits transition new taken failed h = (
+    last_turn d q t transition.0.none fits transition.1 new taken failed h,
+    ap (λ (m : Calling). m.need) transition.0.same_call,
   )
-  present_last (Some k) t there fits leads new taken failed h =
-      let start = leads.there (there k refl) in
+  present_last (Some k) t there fits transition new taken failed h =
+      let start = transition.there (there k refl) in
       (last_turn d q t start.0.none fits (asks_lookup k t start.1) new taken failed h, ap (λ (m : Calling). m.need) start.0.call)
 
   -- a pin that was added is the one at which the query runs
   added_leads : (pinned given : Pinned) → given ≡ pinned → q ≡ record p { cushion = after_add p.cushion pinned } → d.taken ≡ c.taken ++ given.stamp ∷ []
       → read_stamp d ≡ Some given.stamp → (new : CallerPorts) (taken : List ℕ) (failed : Option TxnError)
-      → LastLeads d q new taken failed × (d.call.need ≡ need_to_come c) → AddedLeads c.taken (need_to_come c) p pinned new taken failed
+      → LastTransition d q new taken failed × (d.call.need ≡ need_to_come c) → AddedTransition c.taken (need_to_come c) p pinned new taken failed
   added_leads pinned given one added more reads new taken failed h = record {
     between = q;
     added = added;
@@ -151,7 +151,7 @@ module _ (next : Next) (objects : Objects) (c d : CoreValue) (turn : HandTurn) (
   -- what it leaves, with what comes after it
   abbrev Passes : PortRequest → PortReply → Type 0
   Passes request reply =
-      CoreAsks c request → is_of_pin request ≡ true → HasGoneOnByHand c reply d turn → LeadsBy c p (Some (Asks request)) d q turn
+      CoreAsks c request → is_of_pin request ≡ true → HasGoneOnByHand c reply d turn → TransitionBy c p (Some (Asks request)) d q turn
 
   pin_given : (now at_least : ℕ) (pinned : Pinned) → HasPinnedForCaller now at_least p q pinned → now ≡ c.bounds.now → at_least ≡ least_present c.bounds c.pins.members
       → HasGivenPin c p q pinned
@@ -159,11 +159,11 @@ module _ (next : Next) (objects : Objects) (c d : CoreValue) (turn : HandTurn) (
       subst (λ (n : ℕ). HasPinnedForCaller n (least_present c.bounds c.pins.members) p q pinned) moment (subst (λ (n : ℕ). HasPinnedForCaller now n p q pinned) least h)
 
   add_from : (pinned : Pinned) (new : CallerPorts) (taken : List ℕ) (failed : Option TxnError) → d.taken ≡ c.taken → HasSameCall c d
-      → AddLeads d.taken (need_to_come d) q pinned new taken failed → AddLeads c.taken (need_to_come c) q pinned new taken failed
+      → ActAddTransition d.taken (need_to_come d) q pinned new taken failed → ActAddTransition c.taken (need_to_come c) q pinned new taken failed
   add_from pinned new taken failed same call h =
       let need : need_to_come d ≡ need_to_come c =
       ap (λ (o : Option Call). coming_need o d.call.need) call.first ∙ ap (λ (m : Calling). coming_need (first_call c.pinning) m.need) call.call in
-      subst (λ (n : Option Need). AddLeads c.taken n q pinned new taken failed) need (subst (λ (ts : List ℕ). AddLeads ts (need_to_come d) q pinned new taken failed) same h)
+      subst (λ (n : Option Need). ActAddTransition c.taken n q pinned new taken failed) need (subst (λ (ts : List ℕ). ActAddTransition ts (need_to_come d) q pinned new taken failed) same h)
 
   passed_in : (x : Exchange) → Exchanged x → Passes (request_of x) (reply_of x)
   passed_in (exchanges.Pin now at_least (Ok pinned)) h asking of gone new taken failed after =
@@ -171,10 +171,10 @@ module _ (next : Next) (objects : Objects) (c d : CoreValue) (turn : HandTurn) (
         given = q;
         pinned = pinned;
         gives = pin_given now at_least pinned h.0 asking.2 asking.3;
-        adds = add_from pinned new taken failed gone.taken gone.leads.1 (subst (λ (t : HandTurn). TurnLeads d q t new taken failed) gone.leads.0 after);
+        adds = add_from pinned new taken failed gone.taken gone.transition.1 (subst (λ (t : HandTurn). TurnTransition d q t new taken failed) gone.transition.0 after);
       })
   passed_in (exchanges.Pin now at_least (Err e)) h asking of gone new taken failed after =
-      let still = subst (λ (t : HandTurn). TurnLeads d q t new taken failed) gone.leads after in
+      let still = subst (λ (t : HandTurn). TurnTransition d q t new taken failed) gone.transition after in
       inl (record {
         cause = e;
         refused = subst (λ (n : ℕ). HasRefusedPin n p new e) asking.3 (subst (λ (r : CallerPorts). HasRefusedPin at_least p r e) (sym still.ports) h.0);
@@ -182,14 +182,14 @@ module _ (next : Next) (objects : Objects) (c d : CoreValue) (turn : HandTurn) (
         failed_so = still.failed_so;
       })
   passed_in (exchanges.AddPin pinned given (Ok added)) h asking of gone new taken failed after =
-      let at = gone.leads objects there in
+      let at = gone.transition objects there in
       let reads : read_stamp d ≡ Some given.stamp = ap (λ (s : PinSetValue). chosen_stamp (choice_of d.bounds.now d.renew_after s)) gone.pins in
       inl (added_leads c d p q objects pinned given h.1 h.0 gone.taken reads new taken failed
       (present_last c d p q objects (first_call c.pinning) at.0 there (subst (λ (t : HandTurn). IsHandTurn d t) at.1 gone.turn_fits) at.2 new taken failed
-      (subst (λ (t : HandTurn). TurnLeads d q t new taken failed) at.1 after)))
+      (subst (λ (t : HandTurn). TurnTransition d q t new taken failed) at.1 after)))
   passed_in (exchanges.AddPin pinned given (Err e)) h asking of gone new taken failed after =
-      let unpin = subst (λ (t : HandTurn). TurnLeads d q t new taken failed) gone.leads.0 after in
-      let one : Dropping given.stamp (refused_pin e) ≡ Dropping given.stamp unpin.error = one_step d _ _ gone.leads.1 unpin.due in
+      let unpin = subst (λ (t : HandTurn). TurnTransition d q t new taken failed) gone.transition.0 after in
+      let one : Dropping given.stamp (refused_pin e) ≡ Dropping given.stamp unpin.error = one_step d _ _ gone.transition.1 unpin.due in
       let error : refused_pin e ≡ unpin.error = cc one in
       inr (record {
         cause = e;
@@ -203,7 +203,7 @@ module _ (next : Next) (objects : Objects) (c d : CoreValue) (turn : HandTurn) (
         failed_so = unpin.failed_so ∙ ap Some (sym error);
       })
   passed_in (exchanges.Unpin stamp unpinned) h asking of gone new taken failed after =
-      let still = subst (λ (t : HandTurn). TurnLeads d q t new taken failed) (gone.leads stamp asking.0 asking.1) after in
+      let still = subst (λ (t : HandTurn). TurnTransition d q t new taken failed) (gone.transition stamp asking.0 asking.1) after in
       let so = unpinned_so stamp p q unpinned h.0 in
       record {
         error = asking.0;
@@ -220,7 +220,7 @@ module _ (next : Next) (objects : Objects) (c d : CoreValue) (turn : HandTurn) (
   pub passed_leads : (request : PortRequest) (reply : PortReply) → HasAskedPorts next seen request p q reply → Passes request reply
   passed_leads request reply asked =
       by_exchange Exchanged Passes passed_in request reply
-      (both_exchange (CallerExchangeTransition seen p q) (IsAnsweredRight next) request reply asked.leads asked.answer)
+      (both_exchange (CallerExchangeTransition seen p q) (IsAnsweredRight next) request reply asked.transition asked.answer)
 
 -- ---- the last request
 
@@ -233,16 +233,16 @@ module _ (c d : CoreValue) where
   -- a reply that was taken leads to no refusal but for memory
   take_fails : (need : Need) (reply : Reply) → ((query : Query) → need_after c.call.frames need reply ≢ needs.Query query) → (t : HandTurn)
       → TakeTransition c need reply d t → IfSome (turn_error t) (λ (e : TxnError). e ≡ Memory)
-  take_fails need reply apart None leads = tt
-  take_fails need reply apart (Some (Asks request)) leads = tt
-  take_fails need reply apart (Some (Ended (Ok value))) leads = tt
-  take_fails need reply apart (Some (Ended (Err e))) leads = go (leads []).1
+  take_fails need reply apart None transition = tt
+  take_fails need reply apart (Some (Asks request)) transition = tt
+  take_fails need reply apart (Some (Ended (Ok value))) transition = tt
+  take_fails need reply apart (Some (Ended (Err e))) transition = go (transition []).1
     where
       go : IsWanting (Some (need_after c.call.frames need reply)) d e → e ≡ Memory
       go (inl out) = out
       go (inr w) = absurd (apart w.0 (let one : Some (need_after c.call.frames need reply) ≡ Some (needs.Query w.0) = w.1 in cc one))
 
-  hit_fails : (k : Call) (hit : Shown) (t : HandTurn) (members : List Pin) → kept hit.reach c.pins.members ≡ members → HitByHand c k hit d t
+  hit_fails : (k : Call) (hit : HitValue) (t : HandTurn) (members : List Pin) → kept hit.reach c.pins.members ≡ members → HitByHand c k hit d t
       → IfSome (turn_error t) (λ (e : TxnError). e ≡ Memory)
   hit_fails k hit t [] is by = take_fails (needs.Lookup k) replies.Miss (λ query no. absurd (cc no)) t (by.none is)
   hit_fails k hit t (m ∷ ms) is by =
@@ -258,50 +258,50 @@ module _ (c d : CoreValue) (turn : HandTurn) (seen : FrontValue) (p q : CallerPo
 
   abbrev Makes : PortRequest → PortReply → Type 0
   Makes request reply =
-      CoreAsks c request → pins_to_come (Some (Asks request)) ≡ 0 → HasGoneOnByHand c reply d turn → TurnLeads c p (Some (Asks request)) q d.taken (turn_error turn)
+      CoreAsks c request → pins_to_come (Some (Asks request)) ≡ 0 → HasGoneOnByHand c reply d turn → TurnTransition c p (Some (Asks request)) q d.taken (turn_error turn)
 
   for_need : (need : Option Need) → c.call.need ≡ need → IsNeedStep p.budget need p.node q.node → IsNeedStep p.budget c.call.need p.node q.node
   for_need need is h = subst (λ (n : Option Need). IsNeedStep p.budget n p.node q.node) (sym is) h
 
   made_in : (x : Exchange) → CallerExchangeTransition seen p q x → Makes (request_of x) (reply_of x)
-  made_in (exchanges.Pin now at_least pinned) leads asking last gone = absurd (cc last)
-  made_in (exchanges.AddPin pinned given added) leads asking last gone = absurd (cc last)
-  made_in (exchanges.Unpin stamp unpinned) leads asking last gone = absurd (cc last)
-  made_in (exchanges.Lookup number key lo hi None) leads asking last gone = record {
-    same = leads.0;
-    step = for_need (Some (needs.Lookup key)) asking.0.1 (lo, hi, None, leads.1);
+  made_in (exchanges.Pin now at_least pinned) transition asking last gone = absurd (cc last)
+  made_in (exchanges.AddPin pinned given added) transition asking last gone = absurd (cc last)
+  made_in (exchanges.Unpin stamp unpinned) transition asking last gone = absurd (cc last)
+  made_in (exchanges.Lookup number key lo hi None) transition asking last gone = record {
+    same = transition.0;
+    step = for_need (Some (needs.Lookup key)) asking.0.1 (lo, hi, None, transition.1);
     taken_is = gone.taken;
-    refused = memory_alone (take_fails c d (needs.Lookup key) replies.Miss (λ query no. absurd (cc no)) turn (gone.leads key asking.0.1));
+    refused = memory_alone (take_fails c d (needs.Lookup key) replies.Miss (λ query no. absurd (cc no)) turn (gone.transition key asking.0.1));
   }
-  made_in (exchanges.Lookup number key lo hi (Some hit)) leads asking last gone = record {
-    same = leads.0;
-    step = for_need (Some (needs.Lookup key)) asking.0.1 (lo, hi, Some hit, leads.1);
+  made_in (exchanges.Lookup number key lo hi (Some hit)) transition asking last gone = record {
+    same = transition.0;
+    step = for_need (Some (needs.Lookup key)) asking.0.1 (lo, hi, Some hit, transition.1);
     taken_is = gone.taken;
-    refused = memory_alone (hit_fails c d key hit.answer turn _ refl (gone.leads key asking.0.1));
+    refused = memory_alone (hit_fails c d key hit.answer turn _ refl (gone.transition key asking.0.1));
   }
-  made_in (exchanges.Query query stamp (Ok found)) leads asking last gone = record {
-    same = all_same p q leads.0;
-    step = for_need (Some (needs.Query query)) asking.0.1 (ap (λ (r : CallerPorts). r.node) leads.0);
+  made_in (exchanges.Query query stamp (Ok found)) transition asking last gone = record {
+    same = all_same p q transition.0;
+    step = for_need (Some (needs.Query query)) asking.0.1 (ap (λ (r : CallerPorts). r.node) transition.0);
     taken_is = gone.taken;
-    refused = memory_alone (take_fails c d (needs.Query query) (replies.Found found.answer) (λ other no. absurd (cc no)) turn (gone.leads query asking.0.1));
+    refused = memory_alone (take_fails c d (needs.Query query) (replies.Found found.answer) (λ other no. absurd (cc no)) turn (gone.transition query asking.0.1));
   }
-  made_in (exchanges.Query query stamp (Err e)) leads asking last gone = record {
-    same = all_same p q leads.0;
-    step = for_need (Some (needs.Query query)) asking.0.1 (ap (λ (r : CallerPorts). r.node) leads.0);
+  made_in (exchanges.Query query stamp (Err e)) transition asking last gone = record {
+    same = all_same p q transition.0;
+    step = for_need (Some (needs.Query query)) asking.0.1 (ap (λ (r : CallerPorts). r.node) transition.0);
     taken_is = gone.taken;
-    refused = if_some IsBecause (turn_error turn) (refused_request e) (ap turn_error gone.leads) (inr (stamp, ap chosen_stamp asking.1, (query, asking.0.1, (e, leads.1, refl))));
+    refused = if_some IsBecause (turn_error turn) (refused_request e) (ap turn_error gone.transition) (inr (stamp, ap chosen_stamp asking.1, (query, asking.0.1, (e, transition.1, refl))));
   }
-  made_in (exchanges.Insert number entry stored) leads asking last gone = record {
-    same = leads.0;
-    step = for_need (Some (needs.Insert entry)) asking.0.1 (seen, stored, leads.1);
+  made_in (exchanges.Insert number entry stored) transition asking last gone = record {
+    same = transition.0;
+    step = for_need (Some (needs.Insert entry)) asking.0.1 (seen, stored, transition.1);
     taken_is = gone.taken;
-    refused = memory_alone (take_fails c d (needs.Insert entry) replies.Inserted (λ query. no_value_query c.call.frames _ query) turn (gone.leads entry asking.0.1));
+    refused = memory_alone (take_fails c d (needs.Insert entry) replies.Inserted (λ query. no_value_query c.call.frames _ query) turn (gone.transition entry asking.0.1));
   }
 
   pub made_leads : (next : Next) (request : PortRequest) (reply : PortReply) → HasAskedPorts next seen request p q reply → Makes request reply
-  made_leads next request reply asked = by_exchange (CallerExchangeTransition seen p q) Makes made_in request reply asked.leads
+  made_leads next request reply asked = by_exchange (CallerExchangeTransition seen p q) Makes made_in request reply asked.transition
 
-pub still_leads : (c : CoreValue) (p : CallerPorts) (turn : HandTurn) → StillLeads c p turn p c.taken (turn_error turn)
+pub still_leads : (c : CoreValue) (p : CallerPorts) (turn : HandTurn) → StillTransition c p turn p c.taken (turn_error turn)
 still_leads c p turn = record { ports = refl; taken_is = refl; failed_so = refl }
 
 -- the error of the act is that of its last turn
@@ -347,8 +347,8 @@ module _ (next : Next) (old mid : TxnValue) (ask : Ask) (same : mid.core ≡ rec
   taken_same = ap (λ (c : CoreValue). c.taken) same
 
   -- nothing was asked
-  still_acts : (turn : HandTurn) → ((e : TxnError) → turn_error turn ≡ Some e → IsRefusedUnpinned next.limits p old ask e) → StillLeads mid.core p turn new taken failed
-      → ActLeads next.limits p old ask new taken failed
+  still_acts : (turn : HandTurn) → ((e : TxnError) → turn_error turn ≡ Some e → IsRefusedUnpinned next.limits p old ask e) → StillTransition mid.core p turn new taken failed
+      → CallerActTransition next.limits p old ask new taken failed
   still_acts turn because h = inl (record {
     ports = node_unasked (computed_calls old.core.call) ask p new h.ports;
     taken_is = h.taken_is ∙ taken_same;
@@ -363,7 +363,7 @@ module _ (next : Next) (old mid : TxnValue) (ask : Ask) (same : mid.core ≡ rec
   module _ (asked : (query : Query) → need_to_come mid.core ≡ Some (needs.Query query) → ask ≡ asks.Query query)
       (steps : (budget : Option ℕ) (was is : NodeValue) → IsNeedStep budget (need_to_come mid.core) was is → (is ≡ was) ⊎ IsNodeStepFor budget (computed_calls old.core.call) ask was is) where
     -- the last request was made, and no pin before it
-    last_acts : need_to_come mid.core ≡ mid.core.call.need → LastLeads mid.core p new taken failed → ActLeads next.limits p old ask new taken failed
+    last_acts : need_to_come mid.core ≡ mid.core.call.need → LastTransition mid.core p new taken failed → CallerActTransition next.limits p old ask new taken failed
     last_acts free h = inl (record {
       ports = record { same = h.same; step = steps p.budget p.node new.node (subst (λ (n : Option Need). IsNeedStep p.budget n p.node new.node) (sym free) h.step) };
       taken_is = h.taken_is ∙ taken_same;
@@ -381,7 +381,7 @@ module _ (next : Next) (old mid : TxnValue) (ask : Ask) (same : mid.core ≡ rec
             )))
 
     -- the present was due
-    pin_acts : PinsFirst old.core ask → UngivenLeads mid.core p new taken failed ⊎ GivenLeads mid.core p new taken failed → ActLeads next.limits p old ask new taken failed
+    pin_acts : PinsFirst old.core ask → UngivenTransition mid.core p new taken failed ⊎ GivenTransition mid.core p new taken failed → CallerActTransition next.limits p old ask new taken failed
     pin_acts due (inl h) =
         inr (inr (record {
           due = due;
@@ -400,7 +400,7 @@ module _ (next : Next) (old mid : TxnValue) (ask : Ask) (same : mid.core ≡ rec
         because between e (inl out) = inl out
         because between e (inr r) = inr (need_refused (need_to_come mid.core) ask h.pinned.stamp between.database e asked r)
 
-        go : AddLeads mid.core.taken (need_to_come mid.core) h.given h.pinned new taken failed → ActLeads next.limits p old ask new taken failed
+        go : ActAddTransition mid.core.taken (need_to_come mid.core) h.given h.pinned new taken failed → CallerActTransition next.limits p old ask new taken failed
         go (inl a) =
             inr (inl (record {
               due = due;
@@ -464,11 +464,11 @@ module _ (next : Next) (old mid : TxnValue) (ask : Ask) (turn : HandTurn) (asked
   ended_because : (e : TxnError) (need : Need) → old.core.call.need ≡ Some need → (stands : CallTurn)
       → AfterRan next.limits old.core.call.frames old.core.call.asked old.objects need ask stands → HandTransition stands mid.core (Some (Ended (Err e)))
       → IsRefusedUnpinned next.limits p old ask e
-  ended_because e need needed (Err cause) after leads =
-      let one : ◌≡◌ {A = HandTurn} (Some (Ended (Err e))) (Some (Ended (Err (refused_call cause)))) = leads in
+  ended_because e need needed (Err cause) after transition =
+      let one : ◌≡◌ {A = HandTurn} (Some (Ended (Err e))) (Some (Ended (Err (refused_call cause)))) = transition in
       let is : e ≡ refused_call cause = cc one in
       inr (inl (record { need = need; needed = needed; cause = cause; after = after; is = is }))
-  ended_because e need needed (Ok s) after leads = go leads.1
+  ended_because e need needed (Ok s) after transition = go transition.1
     where
       go : IsWanting s.need mid.core e → IsRefusedUnpinned next.limits p old ask e
       go (inl out) = inl out
@@ -487,7 +487,7 @@ module _ (next : Next) (old mid : TxnValue) (ask : Ask) (turn : HandTurn) (asked
       let q = subst (λ (o : Option Call). WaitsForPin o mid.core.call.need mid.core.pins.members) (waits_open on asking.0.0 waits) waits in
       subst (PinsFirst old.core) (sym (query_asked on q.0 (need_same on ∙ q.1))) (unread asking.1)
 
-  ran_at : (t : HandTurn) → turn ≡ t → IsHandTurn mid.core t → TurnLeads mid.core p t new taken failed → ActLeads next.limits p old ask new taken failed
+  ran_at : (t : HandTurn) → turn ≡ t → IsHandTurn mid.core t → TurnTransition mid.core p t new taken failed → CallerActTransition next.limits p old ask new taken failed
   ran_at None is at h =
       still_acts next old mid ask asked.same p new taken failed None (λ e no. absurd (cc no)) h
   ran_at (Some (Ended (Ok value))) is at h =
@@ -499,9 +499,9 @@ module _ (next : Next) (old mid : TxnValue) (ask : Ask) (turn : HandTurn) (asked
       because f one =
           let same : e ≡ f = cc one in
           let n = some_need old.core.call.need runs in
-          let leads = asked.leads n.0 n.1 old.objects in
+          let transition = asked.transition n.0 n.1 old.objects in
           subst (IsRefusedUnpinned next.limits p old ask) same
-          (ended_because e n.0 n.1 leads.0 leads.1 (subst (λ (t : HandTurn). HandTransition leads.0 mid.core t) is leads.2))
+          (ended_because e n.0 n.1 transition.0 transition.1 (subst (λ (t : HandTurn). HandTransition transition.0 mid.core t) is transition.2))
   ran_at (Some (Asks (requests.Pin now at_least))) is at h =
       let on : IsUnended turn = subst IsUnended (sym is) tt in
       pin_acts next old mid ask asked.same p new taken failed (query_asked on) (node_steps on) (pin_due on now at_least at) h
@@ -517,7 +517,7 @@ module _ (next : Next) (old mid : TxnValue) (ask : Ask) (turn : HandTurn) (asked
       let on : IsUnended turn = subst IsUnended (sym is) tt in
       last_acts next old mid ask asked.same p new taken failed (query_asked on) (node_steps on) (need_same on) h
 
-  pub ran_leads : TurnLeads mid.core p turn new taken failed → ActLeads next.limits p old ask new taken failed
+  pub ran_leads : TurnTransition mid.core p turn new taken failed → CallerActTransition next.limits p old ask new taken failed
   ran_leads h = ran_at turn refl asked.turn_fits h
 
 -- a call by no function
@@ -535,8 +535,8 @@ module _ (next : Next) (old mid : TxnValue) (key : Call) (turn : PortTurn) (begu
   looks_up coming budget was is h = inr (subst (λ (o : Option Need). IsNeedStep budget o was is) coming h)
 
   -- it begins with the pin
-  pin_first : (t : PortTurn) → AsksPin t → PinsFirst old.core (asks.Call key) → need_to_come mid.core ≡ Some (needs.Lookup key) → TurnLeads mid.core p (Some t) new taken failed
-      → ActLeads next.limits p old (asks.Call key) new taken failed
+  pin_first : (t : PortTurn) → AsksPin t → PinsFirst old.core (asks.Call key) → need_to_come mid.core ≡ Some (needs.Lookup key) → TurnTransition mid.core p (Some t) new taken failed
+      → CallerActTransition next.limits p old (asks.Call key) new taken failed
   pin_first (Asks (requests.Pin now at_least)) asking due coming h =
       pin_acts next old mid (asks.Call key) begun_same p new taken failed (no_query coming) (looks_up coming) due h
   pin_first (Asks (requests.AddPin pinned)) asking due coming h = absurd asking
@@ -547,8 +547,8 @@ module _ (next : Next) (old mid : TxnValue) (key : Call) (turn : PortTurn) (begu
   pin_first (Ended outcome) asking due coming h = absurd asking
 
   -- .. or with the lookup
-  lookup_first : (t : PortTurn) → AsksLookup key t → need_to_come mid.core ≡ Some (needs.Lookup key) → mid.core.call.need ≡ Some (needs.Lookup key) → TurnLeads mid.core p (Some t) new taken failed
-      → ActLeads next.limits p old (asks.Call key) new taken failed
+  lookup_first : (t : PortTurn) → AsksLookup key t → need_to_come mid.core ≡ Some (needs.Lookup key) → mid.core.call.need ≡ Some (needs.Lookup key) → TurnTransition mid.core p (Some t) new taken failed
+      → CallerActTransition next.limits p old (asks.Call key) new taken failed
   lookup_first (Asks (requests.Lookup node k lo hi)) asking coming need h =
       last_acts next old mid (asks.Call key) begun_same p new taken failed (no_query coming) (looks_up coming) (coming ∙ sym need) h
   lookup_first (Asks (requests.Pin now at_least)) asking coming need h = absurd asking
@@ -558,19 +558,19 @@ module _ (next : Next) (old mid : TxnValue) (key : Call) (turn : PortTurn) (begu
   lookup_first (Asks (requests.Insert node entry)) asking coming need h = absurd asking
   lookup_first (Ended outcome) asking coming need h = absurd asking
 
-  begun_at : (members : List Pin) → old.core.pins.members ≡ members → TurnLeads mid.core p (Some turn) new taken failed → ActLeads next.limits p old (asks.Call key) new taken failed
+  begun_at : (members : List Pin) → old.core.pins.members ≡ members → TurnTransition mid.core p (Some turn) new taken failed → CallerActTransition next.limits p old (asks.Call key) new taken failed
   begun_at [] is h =
-      let waits = begun.leads.pins is in
+      let waits = begun.transition.pins is in
       pin_first turn waits.asks (ap (λ (n : Option Need). running_call n old.core.call.top) idle.0, is)
       (ap (λ (o : Option Pinning). coming_need (first_call o) mid.core.call.need) waits.waits) h
   begun_at (m ∷ ms) is h =
-      let start = (begun.leads.begins (λ no. let one : m ∷ ms ≡ [] = sym is ∙ no in absurd (cc one))).there there in
+      let start = (begun.transition.begins (λ no. let one : m ∷ ms ≡ [] = sym is ∙ no in absurd (cc one))).there there in
       let need : mid.core.call.need ≡ Some (needs.Lookup key) = ap (λ (m : Calling). m.need) start.0.call in
       lookup_first turn start.1 (ap (λ (o : Option Pinning). coming_need (first_call o) mid.core.call.need) start.0.none ∙ need) need h
 
-  pub begun_leads : TurnLeads mid.core p (Some turn) new taken failed → ActLeads next.limits p old (asks.Call key) new taken failed
+  pub begun_leads : TurnTransition mid.core p (Some turn) new taken failed → CallerActTransition next.limits p old (asks.Call key) new taken failed
   begun_leads h = begun_at old.core.pins.members refl h
 
 -- no function is computed, and nothing was done
-pub none_acts : (limits : Limits) (p : CallerPorts) (old new : TxnValue) (ask : Ask) → new ≡ old → ActLeads limits p old ask p new.core.taken None
+pub none_acts : (limits : Limits) (p : CallerPorts) (old new : TxnValue) (ask : Ask) → new ≡ old → CallerActTransition limits p old ask p new.core.taken None
 none_acts limits p old new ask is = inl (record { ports = node_unasked (computed_calls old.core.call) ask p p refl; taken_is = ap (λ (t : TxnValue). t.core.taken) is; refused = tt })

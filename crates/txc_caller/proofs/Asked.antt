@@ -17,9 +17,9 @@ use Rattle.txc_db.specs.DatabaseValue.{DatabaseValue, after_pin, after_unpin, fr
 use mathlib.Core.List.{IsPrefix}
 use Rattle.txc_stream.proofs.Offered.{prefix_push}
 use Rattle.txc_db.specs.History.{History, pin_event}
-use Rattle.txc_db.specs.Seen.{FrontValue}
+use Rattle.txc_db.specs.FrontsAndFeeds.{FrontValue}
 use Rattle.txc_node.specs.declared.entry.Entry.{Entry}
-use Rattle.txc_node.specs.declared.hit.Shown.{Shown}
+use Rattle.txc_node.specs.declared.hit.HitValue.{HitValue}
 use Rattle.txc_node.specs.declared.op.Op.{Op}
 use Rattle.txc_node.specs.Cache.{lookup_answer, swept_count, trimmed_count}
 use Rattle.txc_node.specs.declared.op.Op.TheVariants.{Insert, Lookup, Sweep, Trim}
@@ -32,11 +32,11 @@ use Rattle.txc_shared.specs.declared.error.NodeError.{NodeError}
 use Rattle.txc_shared.specs.declared.error.NodeError.TheVariants as errors
 use Rattle.txc_shared.specs.Nodes.{NodeValue, after_call, seeing}
 use Rattle.txc_shared.specs.Refusals.{IsLookupRefused, IsNodeLeft, IsStepRefused}
-use Rattle.txc_ports.specs.declared.kept.Kept.{Kept}
-use Rattle.txc_ports.specs.declared.request.PortRequest.{PortRequest}
-use Rattle.txc_ports.specs.declared.request.PortRequest.TheVariants as requests
-use Rattle.txc_ports.specs.declared.reply.PortReply.{PortReply}
-use Rattle.txc_ports.specs.declared.reply.PortReply.TheVariants as replies
+use Rattle.txc_txn_ports.specs.declared.kept.Kept.{Kept}
+use Rattle.txc_txn_ports.specs.declared.request.PortRequest.{PortRequest}
+use Rattle.txc_txn_ports.specs.declared.request.PortRequest.TheVariants as requests
+use Rattle.txc_txn_ports.specs.declared.reply.PortReply.{PortReply}
+use Rattle.txc_txn_ports.specs.declared.reply.PortReply.TheVariants as replies
 use Rattle.txc_caller.proofs.Some.{for_none, for_this}
 use Rattle.txc_caller.proofs.Letting.{grown_by, grown_same}
 use Rattle.txc_caller.specs.Budgets.{node_bytes, HasComeWithin, HasMadeRoomFor, IsInBudget}
@@ -109,8 +109,8 @@ swept old new horizon (Ok count) after answer refused left = (after, answer)
 swept old new horizon (Err e) after answer refused left = (refused, left)
 
 pub node_swept : (old new : NodeValue) (horizon : ℕ) (r : Result ℕ NodeError) → CallerSweepTransition horizon old new r → KeepsNode old new
-node_swept old new horizon (Ok count) leads = node_after old new (Sweep horizon) leads.0
-node_swept old new horizon (Err e) leads = node_left old new e (step_breaks old e leads.0) leads.1
+node_swept old new horizon (Ok count) transition = node_after old new (Sweep horizon) transition.0
+node_swept old new horizon (Err e) transition = node_left old new e (step_breaks old e transition.0) transition.1
 
 -- a trim, by what it returns
 pub trimmed : (old new : NodeValue) (most : ℕ) (r : Result ℕ NodeError) → OnOk r (new ≡ after_call old 0 (Trim most)) → IfOk r (λ count. count ≡ trimmed_count old.cache most)
@@ -118,9 +118,9 @@ pub trimmed : (old new : NodeValue) (most : ℕ) (r : Result ℕ NodeError) → 
 trimmed old new most (Ok count) after answer refused left = (after, answer)
 trimmed old new most (Err e) after answer refused left = (refused, left)
 
-pub node_looked_up : (old new : NodeValue) (key : Call) (lo hi : ℕ) (hit : Option (Answered Shown)) → CallerLookupTransition key lo hi old new hit → KeepsNode old new
-node_looked_up old new key lo hi (Some hit) leads = node_after old new (Lookup key lo hi) leads.0
-node_looked_up old new key lo hi None (inl leads) = node_after old new (Lookup key lo hi) leads.0
+pub node_looked_up : (old new : NodeValue) (key : Call) (lo hi : ℕ) (hit : Option (Answered HitValue)) → CallerLookupTransition key lo hi old new hit → KeepsNode old new
+node_looked_up old new key lo hi (Some hit) transition = node_after old new (Lookup key lo hi) transition.0
+node_looked_up old new key lo hi None (inl transition) = node_after old new (Lookup key lo hi) transition.0
 node_looked_up old new key lo hi None (inr refused) = node_left old new refused.0 (lookup_breaks old lo hi refused.0 refused.1) refused.2
 
 pub node_then : (old mid new : NodeValue) → KeepsNode old mid → KeepsNode mid new → KeepsNode old new
@@ -167,7 +167,7 @@ ports_with_node p node are keeps within = record {
 }
 
 -- a lookup, by what it returns
-pub looked_up : (key : Call) (lo hi : ℕ) (old new : NodeValue) (r : Result (Option (Answered Shown)) NodeError)
+pub looked_up : (key : Call) (lo hi : ℕ) (old new : NodeValue) (r : Result (Option (Answered HitValue)) NodeError)
     → OnOk r (new ≡ after_call old 0 (Lookup key lo hi)) → IfOk r (λ o. option_map (λ f. f.answer) o ≡ lookup_answer old.cache key lo hi)
     → IfOk r (λ o. IfSome o (λ f. f.front ≡ old.seen)) → IfErr r (IsNodeLeft old new) → IfErr r (IsLookupRefused old lo hi)
     → CallerLookupTransition key lo hi old new (result_unwrap_or r None)
@@ -176,15 +176,15 @@ looked_up key lo hi old new (Ok None) after answer front left refused = inl (aft
 looked_up key lo hi old new (Err e) after answer front left refused = inr (e, refused, left)
 
 -- what holds of what it found holds of what the node has
-pub found_so : (P : Answered Shown → Type 0) (r : Result (Option (Answered Shown)) NodeError) → IfOk r (λ o. IfSome o P) → IfSome (result_unwrap_or r None) P
+pub found_so : (P : Answered HitValue → Type 0) (r : Result (Option (Answered HitValue)) NodeError) → IfOk r (λ o. IfSome o P) → IfSome (result_unwrap_or r None) P
 found_so P (Ok o) h = h
 found_so P (Err e) h = tt
 
 -- what a hit shows is of the row
-pub hit_row : (old new : NodeValue) (key : Call) (lo hi : ℕ) (hit : Option (Answered Shown)) (row : Name) → old.seen.events ≡ row → CallerLookupTransition key lo hi old new hit
+pub hit_row : (old new : NodeValue) (key : Call) (lo hi : ℕ) (hit : Option (Answered HitValue)) (row : Name) → old.seen.events ≡ row → CallerLookupTransition key lo hi old new hit
     → IfSome hit (λ h. h.front.events ≡ row)
-hit_row old new key lo hi (Some hit) row is leads = ap (λ (f : FrontValue). f.events) leads.2 ∙ is
-hit_row old new key lo hi None row is leads = tt
+hit_row old new key lo hi (Some hit) row is transition = ap (λ (f : FrontValue). f.events) transition.2 ∙ is
+hit_row old new key lo hi None row is transition = tt
 
 -- a pin, an addition and a hold that is taken away, by what they return
 pub pinned_so : (now at_least : ℕ) (p : CallerPorts) (d : DatabaseValue) (r : Result Pinned DbError) → OnOk r (d ≡ after_pin p.database now) → IfOk r (λ pinned. pinned.stamp ≡ newest d)
@@ -238,13 +238,13 @@ module _ (next : Next) (seen : FrontValue) (old new : CallerPorts) where
   asked_pin now at_least (Ok pinned) grown h = record {
     answer = (h.moment, h.late, h.shown);
     row = for_this (λ (f : FrontValue). f.events ≡ old.database.events) pinned.front (ap (λ (f : FrontValue). f.events) h.front ∙ grown.events);
-    leads = h;
+    transition = h;
     grown = grown;
   }
   asked_pin now at_least (Err e) grown h = record {
     answer = tt;
     row = for_none (λ (f : FrontValue). f.events ≡ old.database.events);
-    leads = h;
+    transition = h;
     grown = grown;
   }
 
@@ -253,7 +253,7 @@ module _ (next : Next) (seen : FrontValue) (old new : CallerPorts) where
   asked_add pinned added of same h = record {
     answer = refl;
     row = for_this (λ (f : FrontValue). f.events ≡ old.database.events) pinned.front of;
-    leads = h;
+    transition = h;
     grown = grown_same old.database new.database (ap (λ (p : CallerPorts). p.database) same);
   }
 
@@ -262,23 +262,23 @@ module _ (next : Next) (seen : FrontValue) (old new : CallerPorts) where
   asked_unpin stamp unpinned grown h = record {
     answer = tt;
     row = for_none (λ (f : FrontValue). f.events ≡ old.database.events);
-    leads = h;
+    transition = h;
     grown = grown;
   }
 
-  pub asked_lookup : (node : ℕ) (key : Call) (lo hi : ℕ) (hit : Option (Answered Shown)) → new ≡ record old { node = new.node }
+  pub asked_lookup : (node : ℕ) (key : Call) (lo hi : ℕ) (hit : Option (Answered HitValue)) → new ≡ record old { node = new.node }
       → CallerLookupTransition key lo hi old.node new.node hit → IfSome hit (λ h. IsTrueIn next h.front.history (entry_shown key h.answer))
       → IfSome hit (λ h. h.front.events ≡ old.database.events) → HasAskedPorts next seen (requests.Lookup node key lo hi) old new (replies.Lookup hit)
   asked_lookup node key lo hi (Some hit) same h right of = record {
     answer = right;
     row = for_this (λ (f : FrontValue). f.events ≡ old.database.events) hit.front of;
-    leads = (same, h);
+    transition = (same, h);
     grown = grown_same old.database new.database (ap (λ (p : CallerPorts). p.database) same);
   }
   asked_lookup node key lo hi None same h right of = record {
     answer = tt;
     row = for_none (λ (f : FrontValue). f.events ≡ old.database.events);
-    leads = (same, h);
+    transition = (same, h);
     grown = grown_same old.database new.database (ap (λ (p : CallerPorts). p.database) same);
   }
 
@@ -287,13 +287,13 @@ module _ (next : Next) (seen : FrontValue) (old new : CallerPorts) where
   asked_query query stamp (Ok found) same h = record {
     answer = h.over;
     row = for_this (λ (f : FrontValue). f.events ≡ old.database.events) found.front (ap (λ (f : FrontValue). f.events) h.front);
-    leads = (same, h);
+    transition = (same, h);
     grown = grown_same old.database new.database (ap (λ (p : CallerPorts). p.database) same);
   }
   asked_query query stamp (Err e) same h = record {
     answer = tt;
     row = for_none (λ (f : FrontValue). f.events ≡ old.database.events);
-    leads = (same, h);
+    transition = (same, h);
     grown = grown_same old.database new.database (ap (λ (p : CallerPorts). p.database) same);
   }
 
@@ -302,6 +302,6 @@ module _ (next : Next) (seen : FrontValue) (old new : CallerPorts) where
   asked_insert node entry kept same h = record {
     answer = tt;
     row = for_none (λ (f : FrontValue). f.events ≡ old.database.events);
-    leads = (same, h);
+    transition = (same, h);
     grown = grown_same old.database new.database (ap (λ (p : CallerPorts). p.database) same);
   }

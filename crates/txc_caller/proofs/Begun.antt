@@ -5,13 +5,13 @@ use Rattle.txc_stream.specs.Names.{Name}
 use Rattle.txc_app.specs.Eval.{Next}
 use Rattle.txc_cushion.specs.declared.pin.Pin.{Pin}
 use Rattle.txc_cushion.specs.Cushion.{after_fresh, handed_out, CushionValue}
-use Rattle.txc_ports.specs.declared.bounds.Bounds.{Bounds}
-use Rattle.txc_registry.specs.Objects.{AllIdle, Objects}
-use Rattle.txc_txn.specs.Core.{value_of, CoreHolds, CoreValue, IsCore, IsIdle}
+use Rattle.txc_txn_ports.specs.declared.bounds.Bounds.{Bounds}
+use Rattle.txc_call_registry.specs.Objects.{AllIdle, Objects}
+use Rattle.txc_txn.specs.TxnCore.{value_of, CoreHolds, CoreValue, IsCore, IsIdle}
 use Rattle.txc_txn.specs.declared.txn_core.TxnCore.{TxnCore}
-use Rattle.txc_txn.specs.Kept.{TxnValue}
+use Rattle.txc_txn.specs.RunningTxn.{TxnValue}
 use Rattle.txc_caller.specs.Ports.{CallerPorts}
-use Rattle.txc_caller.specs.Reading.{CallerValue, IsBegunCore, IsBegunReading, IsLent}
+use Rattle.txc_caller.specs.CallerTxn.{CallerValue, IsBegunCore, IsBegunReading, IsLent}
 
 pub begun_core : {E : Type 0} (r : Result TxnCore E) (renewed : ℕ) (asked : Bounds) (row row' : Name) (k k' : CushionValue) → row ≡ row' → k ≡ k'
     → IfOk r (λ core. (next : Next) (objects : Objects) → AllIdle objects → IsCore next objects (value_of core))
@@ -43,7 +43,7 @@ pub begun_reading : (next : Next) (asked : Bounds) (old : CallerValue) (ports : 
 begun_reading next asked old ports t core is lent begun users same = record {
   bounds = ap (λ (c : CoreValue). c.bounds) is ∙ begun.bounds;
   recorded = ap (λ (c : CoreValue). c.recorded) is ∙ begun.recorded;
-  meant = lent.meant;
+  valid = lent.valid;
   functions = lent.functions;
   idle = subst IsIdle (sym is) begun.idle;
   members = ap (λ (c : CoreValue). c.pins.members) is ∙ begun.members;

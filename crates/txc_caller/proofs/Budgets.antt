@@ -7,10 +7,10 @@ use Rattle.txc_tags.specs.declared.tag.Tag.{Tag}
 use Rattle.txc_tags.specs.Keys.{Call}
 use Rattle.txc_stream.specs.Names.{HasRow}
 use Rattle.txc_stamp.specs.Interval.{closed_at}
-use Rattle.txc_db.specs.Seen.{FrontValue}
+use Rattle.txc_db.specs.FrontsAndFeeds.{FrontValue}
 use Rattle.txc_db.specs.declared.answered.Answered.{Answered}
 use Rattle.txc_node.specs.declared.entry.Entry.{Entry}
-use Rattle.txc_node.specs.declared.hit.Shown.{Shown}
+use Rattle.txc_node.specs.declared.hit.HitValue.{HitValue}
 use Rattle.txc_node.specs.declared.op.Op.TheVariants.{Lookup}
 use Rattle.txc_node.specs.Entries.{is_best, others, same_place}
 use Rattle.txc_node.specs.Cache.{after_event, after_insert, after_lookup, after_sweep, after_trim, after_use, bytes_of, entries_with, entry_after, found, has_ended, is_invalidated, is_kept, replayed_entry, staying_count, Cache}
@@ -21,7 +21,7 @@ use Rattle.txc_shared.specs.Nodes.{after_call, NodeValue}
 use Rattle.txc_shared.specs.Refusals.{IsNodeLeft, IsStepRefused}
 use Rattle.txc_shared.specs.declared.error.NodeError.{NodeError}
 use Rattle.txc_shared.specs.declared.error.NodeError.TheVariants as errors
-use Rattle.txc_ports.specs.declared.kept.Kept.{Kept}
+use Rattle.txc_txn_ports.specs.declared.kept.Kept.{Kept}
 use Rattle.txc_caller.specs.Budgets.{node_bytes, fits_alone, HasComeWithin, HasMadeRoomFor, IsInBudget}
 use Rattle.txc_caller.specs.Ports.{AreCallerPorts, CallerPorts, CallerInsertTransition, CallerLookupTransition, CallerSweepTransition, CallerTrimTransition, HasRefusedStep}
 use Rattle.txc_caller.proofs.Asked.{lookup_breaks, node_inserted, node_looked_up, node_swept, ports_with_node, step_breaks, MayBreak}
@@ -137,14 +137,14 @@ within_same budget old new is h = within_less budget old new (omega (arith, is))
 refused_step_bytes : (old new : NodeValue) → ¬ (HasRow old.name) → HasRefusedStep old new → node_bytes new ≡ node_bytes old
 refused_step_bytes old new none refused = left_bytes old new refused.0 refused.1 none refused.2
 
-pub looked_within : (budget : Option ℕ) (old new : NodeValue) (key : Call) (lo hi : ℕ) (hit : Option (Answered Shown)) → ¬ (HasRow old.name)
+pub looked_within : (budget : Option ℕ) (old new : NodeValue) (key : Call) (lo hi : ℕ) (hit : Option (Answered HitValue)) → ¬ (HasRow old.name)
     → CallerLookupTransition key lo hi old new hit → IsInBudget budget (node_bytes old) → IsInBudget budget (node_bytes new)
-looked_within budget old new key lo hi hit none leads h = go hit leads
+looked_within budget old new key lo hi hit none transition h = go hit transition
   where
     stepped : new ≡ after_call old 0 (Lookup key lo hi) → bytes_of (after_lookup old.cache key lo hi).entries ≡ node_bytes new → IsInBudget budget (node_bytes new)
     stepped is at = let less = lookup_bytes old.cache key lo hi in within_less budget (node_bytes old) (node_bytes new) (omega (arith, less, at)) h
 
-    go : (o : Option (Answered Shown)) → CallerLookupTransition key lo hi old new o → IsInBudget budget (node_bytes new)
+    go : (o : Option (Answered HitValue)) → CallerLookupTransition key lo hi old new o → IsInBudget budget (node_bytes new)
     go (Some it) l = stepped l.0 (ap (λ (n : NodeValue). node_bytes n) (sym l.0))
     go None (inl l) = stepped l.0 (ap (λ (n : NodeValue). node_bytes n) (sym l.0))
     go None (inr l) =
@@ -153,19 +153,19 @@ looked_within budget old new key lo hi hit none leads h = go hit leads
 
 pub swept_within : (budget : Option ℕ) (old new : NodeValue) (horizon : ℕ) (r : Result ℕ NodeError) → ¬ (HasRow old.name)
     → CallerSweepTransition horizon old new r → IsInBudget budget (node_bytes old) → IsInBudget budget (node_bytes new)
-swept_within budget old new horizon (Ok count) none leads h =
+swept_within budget old new horizon (Ok count) none transition h =
     let less = filter_bytes (λ e. not (has_ended old.cache.processed horizon e)) old.cache.entries in
-    let at : node_bytes new ≡ bytes_of (after_sweep old.cache horizon).entries = ap (λ (n : NodeValue). node_bytes n) leads.0 in
+    let at : node_bytes new ≡ bytes_of (after_sweep old.cache horizon).entries = ap (λ (n : NodeValue). node_bytes n) transition.0 in
     within_less budget (node_bytes old) (node_bytes new) (omega (arith, less, at)) h
-swept_within budget old new horizon (Err e) none leads h = within_same budget (node_bytes old) (node_bytes new) (left_bytes old new e leads.0 none leads.1) h
+swept_within budget old new horizon (Err e) none transition h = within_same budget (node_bytes old) (node_bytes new) (left_bytes old new e transition.0 none transition.1) h
 
 pub trimmed_within : (budget : Option ℕ) (old new : NodeValue) (most : ℕ) (r : Result ℕ NodeError) → ¬ (HasRow old.name)
     → CallerTrimTransition most old new r → IsInBudget budget (node_bytes old) → IsInBudget budget (node_bytes new)
-trimmed_within budget old new most (Ok count) none leads h =
+trimmed_within budget old new most (Ok count) none transition h =
     let less = take_bytes (staying_count most old.cache.entries) old.cache.entries in
-    let at : node_bytes new ≡ bytes_of (after_trim old.cache most).entries = ap (λ (n : NodeValue). node_bytes n) leads.0 in
+    let at : node_bytes new ≡ bytes_of (after_trim old.cache most).entries = ap (λ (n : NodeValue). node_bytes n) transition.0 in
     within_less budget (node_bytes old) (node_bytes new) (omega (arith, less, at)) h
-trimmed_within budget old new most (Err e) none leads h = within_same budget (node_bytes old) (node_bytes new) (left_bytes old new e leads.0 none leads.1) h
+trimmed_within budget old new most (Err e) none transition h = within_same budget (node_bytes old) (node_bytes new) (left_bytes old new e transition.0 none transition.1) h
 
 -- ---- room for an entry
 
@@ -222,17 +222,17 @@ inserted_within budget old new seen entry None none (inr refused) h =
 
 -- ---- the ports
 
-pub looked_ports : (p : CallerPorts) (node : NodeValue) (key : Call) (lo hi : ℕ) (hit : Option (Answered Shown)) → AreCallerPorts p
+pub looked_ports : (p : CallerPorts) (node : NodeValue) (key : Call) (lo hi : ℕ) (hit : Option (Answered HitValue)) → AreCallerPorts p
     → CallerLookupTransition key lo hi p.node node hit → AreCallerPorts (record p { node = node })
-looked_ports p node key lo hi hit are leads =
-    ports_with_node p node are (node_looked_up p.node node key lo hi hit leads) (looked_within p.budget p.node node key lo hi hit are.unstored leads are.within)
+looked_ports p node key lo hi hit are transition =
+    ports_with_node p node are (node_looked_up p.node node key lo hi hit transition) (looked_within p.budget p.node node key lo hi hit are.unstored transition are.within)
 
 pub swept_ports : (p : CallerPorts) (node : NodeValue) (horizon : ℕ) (r : Result ℕ NodeError) → AreCallerPorts p → CallerSweepTransition horizon p.node node r
     → AreCallerPorts (record p { node = node })
-swept_ports p node horizon r are leads =
-    ports_with_node p node are (node_swept p.node node horizon r leads) (swept_within p.budget p.node node horizon r are.unstored leads are.within)
+swept_ports p node horizon r are transition =
+    ports_with_node p node are (node_swept p.node node horizon r transition) (swept_within p.budget p.node node horizon r are.unstored transition are.within)
 
 pub inserted_ports : (p : CallerPorts) (node : NodeValue) (seen : FrontValue) (entry : Entry) (kept : Option Kept) → AreCallerPorts p
     → CallerInsertTransition p.budget seen entry p.node node kept → AreCallerPorts (record p { node = node })
-inserted_ports p node seen entry kept are leads =
-    ports_with_node p node are (node_inserted p.budget p.node node seen entry kept leads) (inserted_within p.budget p.node node seen entry kept are.unstored leads are.within)
+inserted_ports p node seen entry kept are transition =
+    ports_with_node p node are (node_inserted p.budget p.node node seen entry kept transition) (inserted_within p.budget p.node node seen entry kept are.unstored transition are.within)

@@ -5,7 +5,7 @@ use Rattle.std.proofs.lemmas.List.Elements.{All-head, All-tail}
 use Rattle.std.proofs.lemmas.List.Sums.{sum_by-cons}
 use Rattle.txc_cushion.specs.declared.pin.Pin.{Pin}
 use Rattle.txc_cushion.specs.declared.entry.PinEntry.{PinEntry}
-use Rattle.txc_cushion.specs.Pinning.{Falls}
+use Rattle.txc_cushion.specs.Pin.{PinsDescend}
 use Rattle.txc_cushion.specs.Entries.{is_among, times, users_of, with_user, without_users}
 use Rattle.txc_cushion.specs.Cushion.{after_fresh, after_give_back, handed_out, CushionValue, IsCushion}
 use Rattle.txc_cushion.specs.Refusals.{HaveUsers, IsFirstUnused}
@@ -28,7 +28,7 @@ abbrev pub named : List Pin → List ℕ
 named pins = map (λ (p : Pin). p.stamp) pins
 
 -- of pins that fall, a stamp is among them at most once
-among_times : (t : ℕ) (pins : List Pin) → Falls pins → times t (named pins) ≡ cond (is_among t pins) 1 0
+among_times : (t : ℕ) (pins : List Pin) → PinsDescend pins → times t (named pins) ≡ cond (is_among t pins) 1 0
 among_times t [] falls = refl
 among_times t (p ∷ ps) falls = go (p.stamp == t) refl (among_times t ps (λ i j d less below. falls (suc i) (suc j) d (omega (arith, less)) (omega (arith, below))))
   where
@@ -121,14 +121,14 @@ back_all pins i old new past back have =
 
 -- ---- pins that were handed out and are given back leave all as it was
 
-one_again : (pins : List Pin) → Falls pins → (e : PinEntry) → without_users (named pins) (with_user pins e) ≡ e
+one_again : (pins : List Pin) → PinsDescend pins → (e : PinEntry) → without_users (named pins) (with_user pins e) ≡ e
 one_again pins falls e = go (is_among e.pin.stamp pins) (among_times e.pin.stamp pins falls)
   where
     go : (b : Bool) → times e.pin.stamp (named pins) ≡ cond b 1 0 → without_users (named pins) (cond b (record e { users = e.users + 1 }) e) ≡ e
     go true once = let left : (e.users + 1) - times e.pin.stamp (named pins) ≡ e.users = omega (arith, once) in ap (λ (n : ℕ). record e { users = n }) left
     go false never = unnamed (named pins) e never
 
-each_again : (pins : List Pin) → Falls pins → (es : List PinEntry) → map (without_users (named pins)) (map (with_user pins) es) ≡ es
+each_again : (pins : List Pin) → PinsDescend pins → (es : List PinEntry) → map (without_users (named pins)) (map (with_user pins) es) ≡ es
 each_again pins falls [] = refl
 each_again pins falls (e ∷ es) =
     ap (λ (x : PinEntry). x ∷ map (without_users (named pins)) (map (with_user pins) es)) (one_again pins falls e)

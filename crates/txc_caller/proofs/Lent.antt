@@ -5,22 +5,22 @@ use Rattle.txc_tags.specs.Keys.{Call}
 use Rattle.txc_tags.specs.declared.key.TheConstants.{LAST_FUNCTION}
 use Rattle.txc_app.specs.declared.ask.Ask.{Ask}
 use Rattle.txc_app.specs.declared.ask.Ask.TheVariants as asks
-use Rattle.txc_registry.specs.Activity.{Activity, answered, begun, running}
+use Rattle.txc_call_registry.specs.Activity.{Activity, answered, begun, running}
 use Rattle.txc_app.specs.Eval.{Next}
-use Rattle.txc_registry.specs.Objects.{AllIdle, Objects, activation_of, activity_of, numbers_of}
-use Rattle.txc_registry.proofs.Offered.{numbers_stay}
+use Rattle.txc_call_registry.specs.Objects.{AllIdle, Objects, activation_of, activity_of, numbers_of}
+use Rattle.txc_call_registry.proofs.Offered.{numbers_stay}
 use Rattle.txc_call.specs.declared.frame.Frame.{Frame}
 use Rattle.txc_call.specs.declared.need.Need.{Need}
 use Rattle.txc_call.specs.declared.need.Need.TheVariants as needs
 use Rattle.txc_call.specs.Needs.{NeedFits}
-use Rattle.txc_call.specs.Running.{with_resumed, FunctionExists, NeedsFunction}
-use Rattle.txc_ports.specs.declared.turn.Turn.TheVariants.{Ask as Asks, Ended}
-use Rattle.txc_ports.specs.Turns.{PortTurn, IsAsk}
+use Rattle.txc_call.specs.CallSteps.{with_resumed, FunctionExists, NeedsFunction}
+use Rattle.txc_txn_ports.specs.declared.turn.Turn.TheVariants.{Ask as Asks, Ended}
+use Rattle.txc_txn_ports.specs.Turns.{PortTurn, IsAsk}
 use Rattle.txc_txn.specs.declared.pinning.Pinning.{Pinning}
 use Rattle.txc_txn.specs.ByHand.{FirstExists, HandTurn, IsHandTurn, IsUnended, ObjectsLeft}
-use Rattle.txc_txn.specs.Core.{CoreValue, either_call, first_call, open_call, running_call, IsCore, IsIdle, IsTurn}
-use Rattle.txc_caller.specs.Reading.{IsRestingCore}
-use Rattle.txc_caller.specs.Telling.{top_call, HaveAllFunctions}
+use Rattle.txc_txn.specs.TxnCore.{CoreValue, either_call, first_call, open_call, running_call, IsCore, IsIdle, IsTurn}
+use Rattle.txc_caller.specs.CallerTxn.{IsRestingCore}
+use Rattle.txc_caller.specs.ComputedFunctions.{top_call, HaveAllFunctions}
 use Rattle.txc_caller.proofs.Some.{for_none}
 
 -- ---- there is an object for each function

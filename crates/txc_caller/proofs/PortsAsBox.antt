@@ -12,7 +12,7 @@ use Rattle.std.proofs.alloc.Global.TheLaws as heap
 use Rattle.txc_app.specs.declared.app.App.{Ghosts}
 use Rattle.txc_caller.specs.contracts.plain_ports.PlainPorts as Core
 use Rattle.txc_caller.proofs.plain_ports.PlainPorts.TheLaws as core
-use Rattle.txc_parts.specs.contracts.parts.Parts as Parts
+use Rattle.txc_base.specs.contracts.parts.Parts as Parts
 use Rattle.txc_caller.specs.contracts.ports_slot.PortsSlot as SlotType
 
 abbrev pub args_of : RattleType → Dict → Args

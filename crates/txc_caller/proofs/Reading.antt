@@ -3,13 +3,13 @@ use Rattle.std.proofs.Common.{◌≡◌, ◌∙◌, ℕ, List, Option, Some, Non
 use Rattle.txc_app.specs.Eval.{Next}
 use Rattle.txc_cushion.specs.declared.pin.Pin.{Pin}
 use Rattle.txc_db.specs.History.{History}
-use Rattle.txc_ports.specs.declared.bounds.Bounds.{Bounds}
-use Rattle.txc_ports.specs.declared.recorded.Recorded.{Recorded}
-use Rattle.txc_txn.specs.Core.{Explains}
-use Rattle.txc_txn.specs.Kept.{TxnValue}
+use Rattle.txc_txn_ports.specs.declared.bounds.Bounds.{Bounds}
+use Rattle.txc_txn_ports.specs.declared.recorded.Recorded.{Recorded}
+use Rattle.txc_txn.specs.TxnCore.{Explains}
+use Rattle.txc_txn.specs.RunningTxn.{TxnValue}
 use Rattle.txc_txn.specs.Sessions.{IsAtLeast}
 use Rattle.txc_caller.specs.Ports.{AreGivenBack, CallerPorts, HasGrownDatabase}
-use Rattle.txc_caller.specs.Reading.{CallerValue, HasEndedReading, KeepsCaller}
+use Rattle.txc_caller.specs.CallerTxn.{CallerValue, HasEndedReading, KeepsCaller}
 use Rattle.txc_caller.proofs.Letting.{grown_same}
 
 -- what explains answers is not before the stamp that the bounds name

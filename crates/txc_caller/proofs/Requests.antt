@@ -7,38 +7,38 @@ use Rattle.txc_stream.specs.Names.{Name}
 use Rattle.txc_stream.proofs.Offered.{prefix_self, prefix_trans}
 use Rattle.txc_tags.specs.Keys.{Call}
 use Rattle.txc_db.specs.History.{History}
-use Rattle.txc_db.specs.Seen.{FrontValue}
+use Rattle.txc_db.specs.FrontsAndFeeds.{FrontValue}
 use Rattle.txc_app.specs.declared.app.Limits.{Limits}
 use Rattle.txc_app.specs.Eval.{Next}
 use Rattle.txc_app.specs.declared.ask.Ask.{Ask as FunctionAsk}
-use Rattle.txc_registry.specs.Objects.{numbers_of, Objects}
-use Rattle.txc_call.specs.Calling.{started, Calling}
+use Rattle.txc_call_registry.specs.Objects.{numbers_of, Objects}
+use Rattle.txc_call.specs.CallMachine.{started, Calling}
 use Rattle.txc_call.specs.Needs.{NeedFits}
 use Rattle.txc_call.specs.declared.frame.Frame.{Frame}
 use Rattle.txc_call.specs.declared.need.HeldAnswer.{HeldAnswer}
 use Rattle.txc_call.specs.declared.need.Need.{Need}
 use Rattle.txc_call.specs.declared.need.Need.TheVariants as needs
-use Rattle.txc_ports.specs.Asking.{TurnAddsSuch}
-use Rattle.txc_ports.specs.Fronts.{front_of_reply}
-use Rattle.txc_ports.specs.Turns.{PortTurn, IsAsk}
-use Rattle.txc_ports.specs.declared.error.TxnError.{TxnError}
-use Rattle.txc_ports.specs.declared.recorded.Recorded.{Recorded}
-use Rattle.txc_ports.specs.declared.request.PortRequest.{PortRequest}
-use Rattle.txc_ports.specs.declared.request.PortRequest.TheVariants as requests
-use Rattle.txc_ports.specs.declared.reply.PortReply.{PortReply}
-use Rattle.txc_ports.specs.declared.reply.PortReply.TheVariants as ports
-use Rattle.txc_ports.specs.declared.turn.Turn.TheVariants.{Ask, Ended}
+use Rattle.txc_txn_ports.specs.PortRequests.{TurnAddsSuch}
+use Rattle.txc_txn_ports.specs.Fronts.{front_of_reply}
+use Rattle.txc_txn_ports.specs.Turns.{PortTurn, IsAsk}
+use Rattle.txc_txn_ports.specs.declared.error.TxnError.{TxnError}
+use Rattle.txc_txn_ports.specs.declared.recorded.Recorded.{Recorded}
+use Rattle.txc_txn_ports.specs.declared.request.PortRequest.{PortRequest}
+use Rattle.txc_txn_ports.specs.declared.request.PortRequest.TheVariants as requests
+use Rattle.txc_txn_ports.specs.declared.reply.PortReply.{PortReply}
+use Rattle.txc_txn_ports.specs.declared.reply.PortReply.TheVariants as ports
+use Rattle.txc_txn_ports.specs.declared.turn.Turn.TheVariants.{Ask, Ended}
 use Rattle.txc_txn.specs.declared.pinning.Pinning.{Pinning}
 use Rattle.txc_txn.specs.declared.pinning.PinStep.{PinStep}
 use Rattle.txc_txn.specs.declared.pinning.PinStep.TheVariants.{Asked, Adding, Dropping}
 use Rattle.txc_txn.specs.ByHand.{FirstExists, HandTurn, HasAskedByHand, HasGoneOnByHand, HasSameCall, HearTransition, IsHandTurn, IsUnended, ObjectsLeft, recorded_by_hand}
-use Rattle.txc_txn.specs.Core.{first_call, open_call, recorded_after, AddsOnly, CoreAsks, CoreValue, IsAnswered, IsCore, IsNoAdding, IsNoValue, IsPinningAt, IsTurn, PinningFits, WaitsForPin}
-use Rattle.txc_txn.specs.Kept.{HasBegunCall, TxnValue}
+use Rattle.txc_txn.specs.TxnCore.{first_call, open_call, recorded_after, AddsOnly, CoreAsks, CoreValue, IsAnswered, IsCore, IsNoAdding, IsNoValue, IsPinningAt, IsTurn, PinningFits, WaitsForPin}
+use Rattle.txc_txn.specs.RunningTxn.{HasBegunCall, TxnValue}
 use Rattle.txc_txn.specs.Transitions.{PresentPinTransition}
 use Rattle.txc_txn.proofs.Offered.{adds_none}
 use Rattle.txc_caller.specs.Ports.{is_of_pin}
-use Rattle.txc_caller.specs.Reading.{KeepsTxn}
-use Rattle.txc_caller.specs.Serving.{pins_to_come, HasPassed, IsGoing, IsHeldFor, IsTurnOf, WaitsForCall}
+use Rattle.txc_caller.specs.CallerTxn.{KeepsTxn}
+use Rattle.txc_caller.specs.ActRequests.{pins_to_come, HasPassed, IsGoing, IsHeldFor, IsTurnOf, WaitsForCall}
 
 -- ---- what is kept
 
@@ -112,19 +112,19 @@ module _ (P : FrontValue → Type 0) (old new : CoreValue) (turn : HandTurn) whe
   -- a pin that is to be added is that of the reply
   adds_heard : (reply : PortReply) → ForSome (front_of_reply reply) P → IfSome turn (AddsOnly reply) → HearTransition old reply new turn
       → IfSome turn (TurnAddsSuch P)
-  adds_heard (ports.Pin (Ok pinned)) of only leads = subst (λ (t : HandTurn). IfSome t (TurnAddsSuch P)) (sym leads.0) (of pinned.front refl)
-  adds_heard (ports.Pin (Err error)) of only leads = no_such (ports.Pin (Err error)) (λ t h. h) only
-  adds_heard (ports.AddPin pinned added) of only leads = no_such (ports.AddPin pinned added) (λ t h. h) only
-  adds_heard (ports.Unpin unpinned) of only leads = no_such (ports.Unpin unpinned) (λ t h. h) only
-  adds_heard (ports.Lookup hit) of only leads = no_such (ports.Lookup hit) (λ t h. h) only
-  adds_heard (ports.Query found) of only leads = no_such (ports.Query found) (λ t h. h) only
-  adds_heard (ports.Insert kept) of only leads = no_such (ports.Insert kept) (λ t h. h) only
+  adds_heard (ports.Pin (Ok pinned)) of only transition = subst (λ (t : HandTurn). IfSome t (TurnAddsSuch P)) (sym transition.0) (of pinned.front refl)
+  adds_heard (ports.Pin (Err error)) of only transition = no_such (ports.Pin (Err error)) (λ t h. h) only
+  adds_heard (ports.AddPin pinned added) of only transition = no_such (ports.AddPin pinned added) (λ t h. h) only
+  adds_heard (ports.Unpin unpinned) of only transition = no_such (ports.Unpin unpinned) (λ t h. h) only
+  adds_heard (ports.Lookup hit) of only transition = no_such (ports.Lookup hit) (λ t h. h) only
+  adds_heard (ports.Query found) of only transition = no_such (ports.Query found) (λ t h. h) only
+  adds_heard (ports.Insert kept) of only transition = no_such (ports.Insert kept) (λ t h. h) only
 
 pub going_heard : (row : Name) (old new : CoreValue) (reply : PortReply) (turn : HandTurn) → HasGoneOnByHand old reply new turn
     → ForSome (front_of_reply reply) (λ (front : FrontValue). front.events ≡ row) → old.seen.events ≡ row → old.nodes ≡ 1 → IsGoing row new turn
 going_heard row old new reply turn gone of events nodes = record {
   fits = gone.turn_fits;
-  adds = adds_heard (λ (front : FrontValue). front.events ≡ row) old new turn reply of gone.adds gone.leads;
+  adds = adds_heard (λ (front : FrontValue). front.events ≡ row) old new turn reply of gone.adds gone.transition;
   events = gone.events ∙ events;
   nodes = gone.settings.nodes ∙ nodes;
 }
@@ -200,13 +200,13 @@ module _ (old new : CoreValue) (request : PortRequest) where
     -- the pin was added, and the call begins, or goes on
     present_leaves : (first : Option Call) (turn : HandTurn) (t : PortTurn) → first_call old.pinning ≡ first → WaitsForPin first old.call.need old.pins.members
         → FirstExists objects first → IsHandTurn new turn → turn ≡ Some t → PresentPinTransition first old objects new objects t → PinLeaves old new request turn
-    present_leaves None turn t is waits there fits at leads =
+    present_leaves None turn t is waits there fits at transition =
         let fits' : IsTurn new t = subst (IsHandTurn new) at fits in
-        let few : pins_to_come (Some t) ≤ pins_to_come (Some (Ask request)) - 1 = omega (arith, no_pins new t fits' leads.0.none) in
-        same_leaves turn t at few leads.0.same_call (ap first_call leads.0.none ∙ sym is)
-    present_leaves (Some k) turn t is waits there fits at leads =
+        let few : pins_to_come (Some t) ≤ pins_to_come (Some (Ask request)) - 1 = omega (arith, no_pins new t fits' transition.0.none) in
+        same_leaves turn t at few transition.0.same_call (ap first_call transition.0.none ∙ sym is)
+    present_leaves (Some k) turn t is waits there fits at transition =
         let fits' : IsTurn new t = subst (IsHandTurn new) at fits in
-        let start = (leads.there (there k refl)).0 in
+        let start = (transition.there (there k refl)).0 in
         record {
           fewer = subst (λ (u : HandTurn). pins_to_come u ≤ pins_to_come (Some (Ask request)) - 1) (sym at) (omega (arith, no_pins new t fits' start.none));
           some = λ none. let no : None ≡ Some t = sym none ∙ at in absurd (cc no);
@@ -256,19 +256,19 @@ module _ (next : Next) (objects : Objects) (old new : CoreValue) (request : Port
   few s here = count ∙ ap requests_at (one_step old step s at here)
 
   heard_leaves : (reply : PortReply) → IsAnswered old reply → HearTransition old reply new turn → PinLeaves old new request turn
-  heard_leaves (ports.Pin (Ok pinned)) to leads =
+  heard_leaves (ports.Pin (Ok pinned)) to transition =
       let n : pins_to_come (Some (Ask request)) ≡ 3 = few Asked to.0 in
-      same_leaves old new request turn (Ask (requests.AddPin pinned)) leads.0 (omega (arith, n)) leads.1.call leads.1.first
-  heard_leaves (ports.Pin (Err error)) to leads = ended_leaves old new request _ turn leads
-  heard_leaves (ports.AddPin pinned (Ok added)) to leads = added_leaves old new request next objects core step at there turn fits (leads objects there)
-  heard_leaves (ports.AddPin pinned (Err error)) to leads =
+      same_leaves old new request turn (Ask (requests.AddPin pinned)) transition.0 (omega (arith, n)) transition.1.call transition.1.first
+  heard_leaves (ports.Pin (Err error)) to transition = ended_leaves old new request _ turn transition
+  heard_leaves (ports.AddPin pinned (Ok added)) to transition = added_leaves old new request next objects core step at there turn fits (transition objects there)
+  heard_leaves (ports.AddPin pinned (Err error)) to transition =
       let n : pins_to_come (Some (Ask request)) ≡ 2 = few _ to in
-      same_leaves old new request turn (Ask (requests.Unpin pinned.stamp)) leads.0 (omega (arith, n)) leads.2.call leads.2.first
-  heard_leaves (ports.Unpin unpinned) to leads = ended_leaves old new request _ turn (leads to.0 to.1 to.2)
-  heard_leaves (ports.Lookup hit) to leads = absurd (both_pinning old step at to.1.0)
-  heard_leaves (ports.Query (Ok found)) to leads = absurd (both_pinning old step at to.1.0)
-  heard_leaves (ports.Query (Err error)) to leads = absurd (both_pinning old step at to.1.0)
-  heard_leaves (ports.Insert kept) to leads = absurd (both_pinning old step at to.1.0)
+      same_leaves old new request turn (Ask (requests.Unpin pinned.stamp)) transition.0 (omega (arith, n)) transition.2.call transition.2.first
+  heard_leaves (ports.Unpin unpinned) to transition = ended_leaves old new request _ turn (transition to.0 to.1 to.2)
+  heard_leaves (ports.Lookup hit) to transition = absurd (both_pinning old step at to.1.0)
+  heard_leaves (ports.Query (Ok found)) to transition = absurd (both_pinning old step at to.1.0)
+  heard_leaves (ports.Query (Err error)) to transition = absurd (both_pinning old step at to.1.0)
+  heard_leaves (ports.Insert kept) to transition = absurd (both_pinning old step at to.1.0)
 
 -- such a request was made, and gone on with
 pub passed_heard : (next : Next) (row : Name) (old new : TxnValue) (request : PortRequest) (reply : PortReply) (turn : HandTurn)
@@ -278,7 +278,7 @@ pub passed_heard : (next : Next) (row : Name) (old new : TxnValue) (request : Po
     → HasPassed row old (Some (Ask request)) new turn
 passed_heard next row old new request reply turn gone left functions core there asks of to front events nodes =
     let s = step_of old.core request asks of in
-    let leaves = heard_leaves next old.objects old.core new.core request turn core there gone.turn_fits s.0 s.1 s.2 reply to gone.leads in
+    let leaves = heard_leaves next old.objects old.core new.core request turn core there gone.turn_fits s.0 s.1 s.2 reply to gone.transition in
     record {
       going = going_heard row old.core new.core reply turn gone front events nodes;
       of_call = λ before k h. of_call_heard old.core new.core reply turn gone before k (h.begins tt) h.recorded;

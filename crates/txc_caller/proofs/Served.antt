@@ -4,21 +4,21 @@ use Rattle.std.specs.Prelude.{Result}
 use Rattle.txc_stream.specs.Names.{Name}
 use Rattle.txc_tags.specs.Keys.{Call}
 use Rattle.txc_shared.specs.Nodes.{NodeValue}
-use Rattle.txc_call.specs.Running.{NeedsFunction}
+use Rattle.txc_call.specs.CallSteps.{NeedsFunction}
 use Rattle.txc_call.specs.declared.need.HeldAnswer.{HeldAnswer}
 use Rattle.txc_call.specs.declared.need.Need.{Need}
 use Rattle.txc_call.specs.declared.need.Need.TheVariants as needs
-use Rattle.txc_ports.specs.declared.error.TxnError.{TxnError}
-use Rattle.txc_ports.specs.declared.recorded.Recorded.{Recorded}
-use Rattle.txc_ports.specs.declared.turn.Turn.TheVariants.{Ask, Ended}
+use Rattle.txc_txn_ports.specs.declared.error.TxnError.{TxnError}
+use Rattle.txc_txn_ports.specs.declared.recorded.Recorded.{Recorded}
+use Rattle.txc_txn_ports.specs.declared.turn.Turn.TheVariants.{Ask, Ended}
 use Rattle.txc_txn.specs.declared.pinning.Pinning.{Pinning}
 use Rattle.txc_txn.specs.ByHand.{HandTurn, IsUnended}
-use Rattle.txc_txn.specs.Core.{either_call, first_call, running_call, CoreValue}
-use Rattle.txc_txn.specs.Kept.{TxnValue}
-use Rattle.txc_caller.specs.Looking.{HasMissed, IsComputedOnMiss}
-use Rattle.txc_caller.specs.Reading.{IsReadingStep}
-use Rattle.txc_caller.specs.Serving.{FunctionAfter, HasMadeRequest, HasPassed, HasServed, IsTurnOf, NeedsAfter}
-use Rattle.txc_caller.specs.Telling.{ended_step, is_begin, told_answer, told_in, top_call, IsNextStep, IsOpenWith}
+use Rattle.txc_txn.specs.TxnCore.{either_call, first_call, running_call, CoreValue}
+use Rattle.txc_txn.specs.RunningTxn.{TxnValue}
+use Rattle.txc_caller.specs.NodeLookup.{HasMissed, IsComputedOnMiss}
+use Rattle.txc_caller.specs.CallerTxn.{IsReadingStep}
+use Rattle.txc_caller.specs.ActRequests.{FunctionAfter, HasMadeRequest, HasPassed, HasServed, IsTurnOf, NeedsAfter}
+use Rattle.txc_caller.specs.ComputedFunctions.{ended_step, is_begin, told_answer, told_in, top_call, IsNextStep, IsOpenWith}
 use Rattle.txc_caller.specs.declared.step.Step.{Step}
 use Rattle.txc_caller.specs.declared.step.Step.TheVariants.{Answered, Compute, Value}
 use Rattle.txc_caller.proofs.Requests.{keeps_then}

@@ -9,7 +9,7 @@ use Rattle.txc_rows.specs.States.{State}
 use Rattle.txc_rows.specs.declared.query.Query.{Query}
 use Rattle.txc_db.specs.History.{History, state_at}
 use Rattle.txc_cushion.specs.declared.pin.Pin.{Pin}
-use Rattle.txc_app.specs.Answering.{IsRight}
+use Rattle.txc_app.specs.AnswersSoFar.{IsRight}
 use Rattle.txc_app.specs.declared.app.Limits.{Limits}
 use Rattle.txc_app.specs.Eval.{Next}
 use Rattle.txc_app.specs.declared.ask.Answer.{Answer}
@@ -17,32 +17,32 @@ use Rattle.txc_app.specs.declared.ask.Answer.TheVariants as answers
 use Rattle.txc_app.specs.declared.ask.Ask.{Ask}
 use Rattle.txc_app.specs.declared.ask.Ask.TheVariants as asks
 use Rattle.txc_node.specs.declared.entry.Entry.{Entry}
-use Rattle.txc_registry.specs.Activity.{Activity, activation_in, answered, begun, idle, running}
-use Rattle.txc_registry.specs.Objects.{activation_of, activity_of, with_activity, Objects}
-use Rattle.txc_registry.proofs.Offered.{elsewhere}
-use Rattle.txc_call.specs.Calling.{started, Calling}
+use Rattle.txc_call_registry.specs.Activity.{Activity, activation_in, answered, begun, idle, running}
+use Rattle.txc_call_registry.specs.Objects.{activation_of, activity_of, with_activity, Objects}
+use Rattle.txc_call_registry.proofs.Offered.{elsewhere}
+use Rattle.txc_call.specs.CallMachine.{started, Calling}
 use Rattle.txc_call.specs.declared.error.CallError.{CallError}
 use Rattle.txc_call.specs.declared.frame.Frame.{Frame}
 use Rattle.txc_call.specs.declared.need.HeldAnswer.{HeldAnswer}
 use Rattle.txc_call.specs.declared.need.Need.{Need}
 use Rattle.txc_call.specs.declared.need.Need.TheVariants as needs
 use Rattle.txc_call.specs.declared.need.Outcome.{Outcome}
-use Rattle.txc_call.specs.Frames.{answers_in, begun_frame, given, IsRising, IsStack}
+use Rattle.txc_call.specs.Frames.{answers_in, begun_frame, given, FramesAscendFrom, IsStack}
 use Rattle.txc_call.specs.Needs.{NeedFits}
-use Rattle.txc_call.specs.Running.{form_refusal, is_done, objects_after, stays_held, value_need, AfterOneAsk, AfterRan, NeedsFunction}
-use Rattle.txc_call.specs.Turns.{Standing, Turn, AllowedTransition, DoneTransition, IsOutOfMemory, UnlessMemory, UnlessRefused, count_refusal, entry_of_frame, needing, unreached, value_held, with_answer, with_begun}
-use Rattle.txc_ports.specs.declared.turn.Turn.TheVariants.{Ask as Asks, Ended}
-use Rattle.txc_ports.specs.Turns.{PortTurn, IsAsk}
-use Rattle.txc_told.specs.Steps.{objects_after_ask, objects_after_need}
+use Rattle.txc_call.specs.CallSteps.{form_refusal, is_done, objects_after, stays_held, value_need, AfterOneAsk, AfterRan, NeedsFunction}
+use Rattle.txc_call.specs.MachineTurn.{Standing, Turn, AllowedTransition, DoneTransition, IsOutOfMemory, UnlessMemory, UnlessRefused, count_refusal, entry_of_frame, needing, unreached, value_held, with_answer, with_begun}
+use Rattle.txc_txn_ports.specs.declared.turn.Turn.TheVariants.{Ask as Asks, Ended}
+use Rattle.txc_txn_ports.specs.Turns.{PortTurn, IsAsk}
+use Rattle.txc_call_ghosts.specs.Steps.{objects_after_ask, objects_after_need}
 use Rattle.txc_txn.specs.declared.pinning.Pinning.{Pinning}
 use Rattle.txc_txn.specs.declared.pinning.PinStep.TheVariants.{Asked}
 use Rattle.txc_txn.specs.ByHand.{HandTransition, HandTurn, HasAskedByHand, IsUnended, ObjectsLeft}
-use Rattle.txc_txn.specs.Core.{first_call, CoreHolds, CoreValue, IsCore, IsIdle, PinningFits, WaitsForPin}
-use Rattle.txc_txn.specs.Kept.{HasBegunCall, IsTxn, TxnValue}
+use Rattle.txc_txn.specs.TxnCore.{first_call, CoreHolds, CoreValue, IsCore, IsIdle, PinningFits, WaitsForPin}
+use Rattle.txc_txn.specs.RunningTxn.{HasBegunCall, IsTxn, TxnValue}
 use Rattle.txc_txn.proofs.Held.{held_is_right}
-use Rattle.txc_caller.specs.Reading.{open_states}
-use Rattle.txc_caller.specs.Serving.{FunctionAfter, IsHeldFor, ObjectsAfter, WaitsForCall}
-use Rattle.txc_caller.specs.Telling.{calls_of, computed_calls, computed_in, told_answer, told_in, ContinuesWith, HasBegunFunction, IsToldRight, IsToldAfterAsk, ObjectsFollow}
+use Rattle.txc_caller.specs.CallerTxn.{open_states}
+use Rattle.txc_caller.specs.ActRequests.{FunctionAfter, IsHeldFor, ObjectsAfter, WaitsForCall}
+use Rattle.txc_caller.specs.ComputedFunctions.{calls_of, computed_calls, computed_in, told_answer, told_in, ContinuesWith, HasBegunFunction, IsToldRight, IsToldAfterAsk, ObjectsFollow}
 use Rattle.txc_caller.specs.declared.step.CallerError.{CallerError}
 use Rattle.txc_caller.specs.declared.step.Step.{Step}
 use Rattle.txc_caller.specs.declared.step.Step.TheVariants.{Answered, Compute, Value}
@@ -124,12 +124,12 @@ ran_next limits frames asked objects need ask turn h = absurd h
 -- .. and in the core that goes on
 pub hand_next : (computed : List Call) (ask : Ask) (stands : Turn) (new : CoreValue) (turn : HandTurn) → StandsNext computed ask stands → HandTransition stands new turn
     → IsUnended turn → (need : Need) × (new.call.need ≡ Some need) × NeedsNext computed ask new.call.frames need
-hand_next computed ask (Err error) new turn next leads on = absurd (subst IsUnended leads on)
-hand_next computed ask (Ok s) new None next leads on =
-    (next.0, leads.2 ∙ next.1, subst (λ (fs : List Frame). NeedsNext computed ask fs next.0) (sym leads.0) next.2)
-hand_next computed ask (Ok s) new (Some (Asks request)) next leads on =
-    (next.0, leads.1.2 ∙ next.1, subst (λ (fs : List Frame). NeedsNext computed ask fs next.0) (sym leads.1.0) next.2)
-hand_next computed ask (Ok s) new (Some (Ended outcome)) next leads on = absurd on
+hand_next computed ask (Err error) new turn next transition on = absurd (subst IsUnended transition on)
+hand_next computed ask (Ok s) new None next transition on =
+    (next.0, transition.2 ∙ next.1, subst (λ (fs : List Frame). NeedsNext computed ask fs next.0) (sym transition.0) next.2)
+hand_next computed ask (Ok s) new (Some (Asks request)) next transition on =
+    (next.0, transition.1.2 ∙ next.1, subst (λ (fs : List Frame). NeedsNext computed ask fs next.0) (sym transition.1.0) next.2)
+hand_next computed ask (Ok s) new (Some (Ended outcome)) next transition on = absurd on
 
 -- a value neither begins a function nor is looked up
 no_value_begin : (frames : List Frame) (o : Outcome) (k : Call) → needs.Begin k ≡ value_need frames o → ⊥
@@ -163,7 +163,7 @@ answers_else : (objects : Objects) (f g : ℕ) (a : Activity) → g ≢ f → an
 answers_else objects f g a apart = ap (λ (o : Option Activity). (activation_in (unwrap_or o idle)).answers) (elsewhere f g a apart objects)
 
 -- the function around one that is done asks the call of that still
-around_asks : (next : Next) (objects : Objects) (k : Call) (a b : Activity) (frames : List Frame) → IsRising k.function frames
+around_asks : (next : Next) (objects : Objects) (k : Call) (a b : Activity) (frames : List Frame) → FramesAscendFrom k.function frames
     → InnermostAsks next objects (calls_of frames) (asks.Call k)
     → InnermostAsks next (with_activity (with_activity objects k.function a) k.function b) (calls_of frames) (asks.Call k)
 around_asks next objects k a b [] rising h = λ j around is. absurd (cc is)
@@ -175,7 +175,7 @@ around_asks next objects k a b (frame ∷ frames) rising h = λ j around is.
     ∙ h j around is
 
 module _ (next : Next) (objects : Objects) (top : Call) (bytes : List ℕ) where
-  done_as : (frames : List Frame) (k : Call) (a : Activity) → IsRising k.function frames → IsStack next objects top (asks.Call k) frames
+  done_as : (frames : List Frame) (k : Call) (a : Activity) → FramesAscendFrom k.function frames → IsStack next objects top (asks.Call k) frames
       → (done : Call) (around : List Call) → k ∷ calls_of frames ≡ done ∷ around
       → InnermostAsks next (with_activity (with_activity objects k.function a) k.function idle) around (asks.Call done)
   done_as frames k a rising stack done around is =
@@ -305,10 +305,10 @@ module _ (next : Next) (old mid : TxnValue) (ask : Ask) (turn : HandTurn) (asked
   pub stands_next : IsUnended turn → (need : Need) × (mid.core.call.need ≡ Some need) × NeedsNext (computed_calls old.core.call) ask mid.core.call.frames need
   stands_next on =
       let n = some_need old.core.call.need runs in
-      let leads = asked.leads n.0 n.1 [] in
-      hand_next (computed_calls old.core.call) ask leads.0 mid.core turn
-      (subst (λ (o : Option Need). StandsNext (computed_in old.core.call.frames o) ask leads.0) (sym n.1)
-      (ran_next next.limits old.core.call.frames old.core.call.asked [] n.0 ask leads.0 leads.1)) leads.2 on
+      let transition = asked.transition n.0 n.1 [] in
+      hand_next (computed_calls old.core.call) ask transition.0 mid.core turn
+      (subst (λ (o : Option Need). StandsNext (computed_in old.core.call.frames o) ask transition.0) (sym n.1)
+      (ran_next next.limits old.core.call.frames old.core.call.asked [] n.0 ask transition.0 transition.1)) transition.2 on
 
   -- no function begins without a request
   pub no_begun : (k : Call) → turn ≡ None → mid.core.call.need ≢ Some (needs.Begin k)
@@ -319,7 +319,7 @@ module _ (next : Next) (old mid : TxnValue) (ask : Ask) (turn : HandTurn) (asked
       no_begin_next (computed_calls old.core.call) ask mid.core.call.frames k (subst (NeedsNext (computed_calls old.core.call) ask mid.core.call.frames) same n.2)
 
   module _ (fits_old : IsCore next old.objects old.core) (left : ObjectsLeft (objects_after_ask old.objects old.core.call ask) turn mid.objects)
-      (fits_mid : IsCore next mid.objects mid.core) (new : TxnValue) (meant : IsTxn next new) where
+      (fits_mid : IsCore next mid.objects mid.core) (new : TxnValue) (valid : IsTxn next new) where
     unended_left : (t : HandTurn) → IsUnended t → ObjectsLeft (objects_after_ask old.objects old.core.call ask) t mid.objects
         → mid.objects ≡ objects_after_ask old.objects old.core.call ask
     unended_left None on is = is
@@ -344,13 +344,13 @@ module _ (next : Next) (old mid : TxnValue) (ask : Ask) (turn : HandTurn) (asked
         → IsToldAfterAsk next (open_states new.core) old.core.call ask new.core.call step
     told_so (Ok Compute) goes same =
         let n = stands_next goes.0 in
-        begun_so next (computed_calls old.core.call) mid.core new.core new.objects turn (fits_at goes.0 same) meant.fits meant.holds ask n.0 n.1 n.2
+        begun_so next (computed_calls old.core.call) mid.core new.core new.objects turn (fits_at goes.0 same) valid.fits valid.holds ask n.0 n.1 n.2
         goes.1.0 goes.1.1 goes.1.2 goes.1.3 old.core.call refl
     told_so (Ok Answered) goes same =
         let n = stands_next goes.0 in (
           goes.1.0.answer,
           ap told_in goes.1.1,
-          continues_so next (computed_calls old.core.call) mid.core new.core new.objects turn (fits_at goes.0 same) meant.fits meant.holds goes.1.0 goes.1.1 goes.1.2 ask n.0 n.1 n.2
+          continues_so next (computed_calls old.core.call) mid.core new.core new.objects turn (fits_at goes.0 same) valid.fits valid.holds goes.1.0 goes.1.1 goes.1.2 ask n.0 n.1 n.2
               goes.1.3 (around same) old.core.call refl,
         )
     told_so (Ok (Value value)) goes same = tt
@@ -365,21 +365,21 @@ follow_so old call ask new (Err error) h = h
 -- ---- what the outermost call tells
 
 module _ (next : Next) (old mid new : TxnValue) (key : Call) (turn : PortTurn) (begun : HasBegunCall old key mid turn) (idle : IsIdle old.core)
-    (there : IsSome (activity_of old.objects key.function)) (fits_old : IsCore next old.objects old.core) (meant : IsTxn next new) where
+    (there : IsSome (activity_of old.objects key.function)) (fits_old : IsCore next old.objects old.core) (valid : IsTxn next new) where
   no_frames : old.core.call.frames ≡ []
   no_frames = (subst (λ (n : Option Need). NeedFits next old.objects old.core.call.top n old.core.call.frames) idle.0 fits_old.call).0
 
   -- no frame is open yet, and no other call waits
   first_waits : (members : List Pin) → old.core.pins.members ≡ members → (mid.core.call.frames ≡ []) × ((k : Call) → WaitsForCall mid.core k → k ≡ key)
   first_waits [] is =
-      let pins = begun.leads.pins is in
+      let pins = begun.transition.pins is in
       (ap (λ (c : Calling). c.frames) pins.same_call ∙ no_frames, λ k waits. go k pins.same_call pins.waits waits)
     where
       go : (k : Call) → mid.core.call ≡ old.core.call → mid.core.pinning ≡ Some (record { step = Asked; first = Some key }) → WaitsForCall mid.core k → k ≡ key
       go k call at (inl need) = let no : None ≡ Some (needs.Lookup k) = sym (ap (λ (c : Calling). c.need) call ∙ idle.0) ∙ need in absurd (cc no)
       go k call at (inr first) = let one : Some key ≡ Some k = sym (ap first_call at) ∙ first in cc one
   first_waits (m ∷ ms) is =
-      let start = ((begun.leads.begins (λ no. let one : m ∷ ms ≡ [] = sym is ∙ no in absurd (cc one))).there there).0 in
+      let start = ((begun.transition.begins (λ no. let one : m ∷ ms ≡ [] = sym is ∙ no in absurd (cc one))).there there).0 in
       (ap (λ (c : Calling). c.frames) start.call, λ k waits. go k start.call start.none waits)
     where
       go : (k : Call) → mid.core.call ≡ started key → mid.core.pinning ≡ None → WaitsForCall mid.core k → k ≡ key
@@ -396,7 +396,7 @@ module _ (next : Next) (old mid new : TxnValue) (key : Call) (turn : PortTurn) (
       )
   first_told (Ok Answered) goes =
       let at = first_waits old.core.pins.members refl in
-      absurd ((subst (λ (n : Option Need). NeedFits next new.objects new.core.call.top n new.core.call.frames) goes.1.1 meant.fits.call).1 (goes.1.2 ∙ at.0))
+      absurd ((subst (λ (n : Option Need). NeedFits next new.objects new.core.call.top n new.core.call.frames) goes.1.1 valid.fits.call).1 (goes.1.2 ∙ at.0))
   first_told (Ok (Value value)) goes = tt
   first_told (Err error) goes = tt
 

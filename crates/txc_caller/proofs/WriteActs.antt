@@ -10,36 +10,36 @@ use Rattle.txc_validity.specs.declared.answer.Found.{Found}
 use Rattle.txc_db.specs.DatabaseValue.{DatabaseValue}
 use Rattle.txc_db.specs.History.{History, state_at}
 use Rattle.txc_db.specs.declared.error.DbError.{DbError}
-use Rattle.txc_app.specs.Answering.{IsRight}
+use Rattle.txc_app.specs.AnswersSoFar.{IsRight}
 use Rattle.txc_app.specs.declared.app.Limits.{Limits}
 use Rattle.txc_app.specs.Eval.{Next}
 use Rattle.txc_app.specs.declared.ask.Answer.TheVariants as answers
 use Rattle.txc_app.specs.declared.ask.Ask.{Ask}
 use Rattle.txc_app.specs.declared.ask.Ask.TheVariants as asks
-use Rattle.txc_registry.specs.Objects.{Objects}
+use Rattle.txc_call_registry.specs.Objects.{Objects}
 use Rattle.txc_call.specs.declared.frame.Frame.{Frame}
 use Rattle.txc_call.specs.declared.need.HeldAnswer.{HeldAnswer}
 use Rattle.txc_call.specs.declared.need.Need.{Need}
 use Rattle.txc_call.specs.declared.need.Need.TheVariants as needs
 use Rattle.txc_call.specs.declared.need.Outcome.{Outcome}
-use Rattle.txc_call.specs.Calling.{Calling, IsCalling}
+use Rattle.txc_call.specs.CallMachine.{Calling, IsCalling}
 use Rattle.txc_call.specs.Needs.{NeedFits}
 use Rattle.txc_call.specs.Frames.{answers_in}
-use Rattle.txc_call.specs.Running.{AfterRan, is_done, objects_after, value_need, NeedsFunction}
-use Rattle.txc_call.specs.Turns.{Standing, Turn, outcome_of, value_held}
-use Rattle.txc_ports.specs.declared.turn.Turn.TheVariants.{Ask as AskTurn, Ended}
-use Rattle.txc_ports.specs.declared.error.TxnError.{TxnError}
-use Rattle.txc_ports.specs.Refusals.{refused_request}
-use Rattle.txc_told.specs.Steps.{objects_after_ask}
-use Rattle.txc_txn.specs.Core.{running_call}
-use Rattle.txc_rw.specs.declared.given.Given.{Given}
-use Rattle.txc_rw.specs.declared.given.Given.TheVariants as given
-use Rattle.txc_rw.specs.ByHand.{RwHandTurn, RwHandTransition, RwHearTransition, RwObjectsLeft, without_node, answers_by_hand, IsRwHandTurn, IsRwUnended}
-use Rattle.txc_rw.specs.Core.{IsFoundAt, IsRightReply, RwValue}
-use Rattle.txc_rw.specs.Transitions.{IsQueryLeft, RowsTransition}
-use Rattle.txc_caller.specs.Telling.{ContinuesWith, IsNextStep, IsToldRight, IsToldAfterAsk, ObjectsFollow, calls_of, computed_calls, computed_in, ended_step, told_in, top_call}
+use Rattle.txc_call.specs.CallSteps.{AfterRan, is_done, objects_after, value_need, NeedsFunction}
+use Rattle.txc_call.specs.MachineTurn.{Standing, Turn, outcome_of, value_held}
+use Rattle.txc_txn_ports.specs.declared.turn.Turn.TheVariants.{Ask as AskTurn, Ended}
+use Rattle.txc_txn_ports.specs.declared.error.TxnError.{TxnError}
+use Rattle.txc_txn_ports.specs.Refusals.{refused_request}
+use Rattle.txc_call_ghosts.specs.Steps.{objects_after_ask}
+use Rattle.txc_txn.specs.TxnCore.{running_call}
+use Rattle.txc_txn_rw.specs.declared.given.Given.{Given}
+use Rattle.txc_txn_rw.specs.declared.given.Given.TheVariants as given
+use Rattle.txc_txn_rw.specs.ByHand.{RwHandTurn, RwHandTransition, RwHearTransition, RwObjectsLeft, without_node, answers_by_hand, IsRwHandTurn, IsRwUnended}
+use Rattle.txc_txn_rw.specs.RwCore.{IsFoundAt, IsRightReply, RwValue}
+use Rattle.txc_txn_rw.specs.Transitions.{IsQueryLeft, RowsTransition}
+use Rattle.txc_caller.specs.ComputedFunctions.{ContinuesWith, IsNextStep, IsToldRight, IsToldAfterAsk, ObjectsFollow, calls_of, computed_calls, computed_in, ended_step, told_in, top_call}
 use Rattle.txc_db.specs.Calls.{IsQueryRefused}
-use Rattle.txc_caller.specs.Writing.{HasLed, IsActRefused, IsAskedQueryRefused, IsHeard, IsOwnReadRefused, IsReplyAt, IsStepAfter, IsWritingStep, queried_for}
+use Rattle.txc_caller.specs.CallerWrite.{HasLed, IsActRefused, IsAskedQueryRefused, IsHeard, IsOwnReadRefused, IsReplyAt, IsStepAfter, IsWritingStep, queried_for}
 use Rattle.txc_caller.specs.declared.step.CallerError.{CallerError}
 use Rattle.txc_caller.specs.declared.step.CallerError.TheVariants.{Txn}
 use Rattle.txc_caller.specs.declared.step.Step.{Step}
@@ -171,21 +171,21 @@ module _ (computed : List Call) (frames : List Frame) (need : Need) (call : Call
 
 pub asked_from : (computed : List Call) (ask : Ask) (stands : Turn) (mid : RwValue) (turn : RwHandTurn) → StandsNext computed ask stands → RwHandTransition stands mid turn
     → IsRwHandTurn mid turn → HasAskedFrom computed ask mid.call turn
-asked_from computed ask (Err error) mid None next leads fits = absurd (cc leads)
-asked_from computed ask (Err error) mid (Some (AskTurn q)) next leads fits = absurd (cc leads)
-asked_from computed ask (Err error) mid (Some (Ended (Ok value))) next leads fits = absurd (cc leads)
-asked_from computed ask (Err error) mid (Some (Ended (Err other))) next leads fits = tt
-asked_from computed ask (Ok s) mid None next leads fits =
-    goes_on_from computed s.frames next.0 mid.call ask next.2 leads.0 (leads.2 ∙ ap (λ (n : Option Need). without_node s.frames n) next.1) fits.1
-asked_from computed ask (Ok s) mid (Some (AskTurn q)) next leads fits =
+asked_from computed ask (Err error) mid None next transition fits = absurd (cc transition)
+asked_from computed ask (Err error) mid (Some (AskTurn q)) next transition fits = absurd (cc transition)
+asked_from computed ask (Err error) mid (Some (Ended (Ok value))) next transition fits = absurd (cc transition)
+asked_from computed ask (Err error) mid (Some (Ended (Err other))) next transition fits = tt
+asked_from computed ask (Ok s) mid None next transition fits =
+    goes_on_from computed s.frames next.0 mid.call ask next.2 transition.0 (transition.2 ∙ ap (λ (n : Option Need). without_node s.frames n) next.1) fits.1
+asked_from computed ask (Ok s) mid (Some (AskTurn q)) next transition fits =
     let now : Standing = record { frames = mid.call.frames; asked = mid.call.asked; need = mid.call.need; objects = s.objects } in
-    let both = leads.1 in
+    let both = transition.1 in
     let e : now ≡ record s { need = without_node s.frames s.need } = cc both in
     asks_from computed s.frames next.0 mid.call ask q next.2 (ap (λ (st : Standing). st.frames) e)
     (ap (λ (st : Standing). st.need) e ∙ ap (λ (n : Option Need). without_node s.frames n) next.1) fits.1
-asked_from computed ask (Ok s) mid (Some (Ended (Ok value))) next leads fits =
-    done_from computed s.frames next.0 mid.call ask leads.1.0 next.2 (sym (ap (λ (n : Option Need). without_node s.frames n) next.1) ∙ leads.1.1)
-asked_from computed ask (Ok s) mid (Some (Ended (Err other))) next leads fits = tt
+asked_from computed ask (Ok s) mid (Some (Ended (Ok value))) next transition fits =
+    done_from computed s.frames next.0 mid.call ask transition.1.0 next.2 (sym (ap (λ (n : Option Need). without_node s.frames n) next.1) ∙ transition.1.1)
+asked_from computed ask (Ok s) mid (Some (Ended (Err other))) next transition fits = tt
 
 -- ---- and once it has
 
@@ -205,13 +205,13 @@ heard_after old q (Err error) new last heard = subst (λ (t : RwHandTurn). IsHea
 
 module _ (d : DatabaseValue) (mid new : RwValue) where
   -- only these fields change
-  abbrev Leads : Type 0
-  Leads = new ≡ record mid { queried = new.queried; call = new.call; reading = new.reading }
+  abbrev StateTransition : Type 0
+  StateTransition = new ≡ record mid { queried = new.queried; call = new.call; reading = new.reading }
 
-  leads_heard : (n : RwValue) → new ≡ n → n ≡ record mid { queried = n.queried; call = n.call; reading = n.reading } → Leads
+  leads_heard : (n : RwValue) → new ≡ n → n ≡ record mid { queried = n.queried; call = n.call; reading = n.reading } → StateTransition
   leads_heard n is h = subst (λ (v : RwValue). v ≡ record mid { queried = v.queried; call = v.call; reading = v.reading }) (sym is) h
 
-  pub led_same : (turn last : RwHandTurn) → HasLed d mid turn new last → Leads
+  pub led_same : (turn last : RwHandTurn) → HasLed d mid turn new last → StateTransition
   led_same None last led = leads_heard mid led.0 refl
   led_same (Some (Ended outcome)) last led = leads_heard mid led.0 refl
   led_same (Some (AskTurn q)) last (Ok found, at, heard) = leads_heard _ heard.1 refl
@@ -521,8 +521,8 @@ same_but old mid new first then rests none =
 module _ (limits : Limits) (d : DatabaseValue) (computed : List Call) (old mid new : RwValue) (objects : Objects) (need : Need) (ask : Ask) (needed : old.call.need ≡ Some need) where
   first_refused : (stands : Turn) (error : TxnError) → AfterRan limits old.call.frames old.call.asked objects need ask stands → RwHandTransition stands mid (Some (Ended (Err error)))
       → IsActRefused limits d old objects ask (Txn error)
-  first_refused (Err cause) error after leads = inr (inl (record { need = need; needed = needed; cause = cause; after = after; is = cc leads }))
-  first_refused (Ok s) error after leads = inl leads.1
+  first_refused (Err cause) error after transition = inr (inl (record { need = need; needed = needed; cause = cause; after = after; is = cc transition }))
+  first_refused (Ok s) error after transition = inl transition.1
 
   query_refused : (a : Ask) (q : Query) (cause : DbError) → AsksFrom computed a mid.call.frames q → mid.base ≡ old.base → IsQueryRefused d q mid.base cause
       → IsAskedQueryRefused d old.base a (refused_request cause)
@@ -534,19 +534,19 @@ module _ (limits : Limits) (d : DatabaseValue) (computed : List Call) (old mid n
   pub why_refused : (stands : Turn) (turn last : RwHandTurn) (result : Result Step CallerError) → AfterRan limits old.call.frames old.call.asked objects need ask stands
       → RwHandTransition stands mid turn → HasAskedFrom computed ask mid.call turn → mid.base ≡ old.base → HasLed d mid turn new last → IsStepAfter new.call last result
       → IfErr result (IsActRefused limits d old objects ask)
-  why_refused stands None last result after leads from base led says =
+  why_refused stands None last result after transition from base led says =
       let then = subst (λ (t : RwHandTurn). IsStepAfter new.call t result) led.1 says in
       subst (λ (r : Result Step CallerError). IfErr r (IsActRefused limits d old objects ask)) (sym then.1) tt
-  why_refused stands (Some (Ended (Ok value))) last result after leads from base led says =
+  why_refused stands (Some (Ended (Ok value))) last result after transition from base led says =
       let ends : result ≡ ended_step (Ok value) = subst (λ (t : RwHandTurn). IsStepAfter new.call t result) led.1 says in
       subst (λ (r : Result Step CallerError). IfErr r (IsActRefused limits d old objects ask)) (sym ends) tt
-  why_refused stands (Some (Ended (Err error))) last result after leads from base led says =
+  why_refused stands (Some (Ended (Err error))) last result after transition from base led says =
       let ends : result ≡ ended_step (Err error) = subst (λ (t : RwHandTurn). IsStepAfter new.call t result) led.1 says in
-      subst (λ (r : Result Step CallerError). IfErr r (IsActRefused limits d old objects ask)) (sym ends) (first_refused stands error after leads)
-  why_refused stands (Some (AskTurn q)) last result after leads from base (Ok found, at, heard) says =
+      subst (λ (r : Result Step CallerError). IfErr r (IsActRefused limits d old objects ask)) (sym ends) (first_refused stands error after transition)
+  why_refused stands (Some (AskTurn q)) last result after transition from base (Ok found, at, heard) says =
       let then = subst (λ (t : RwHandTurn). IsStepAfter new.call t result) heard.0 says in
       subst (λ (r : Result Step CallerError). IfErr r (IsActRefused limits d old objects ask)) (sym then.1) tt
-  why_refused stands (Some (AskTurn q)) last result after leads from base (Err cause, at, heard) says =
+  why_refused stands (Some (AskTurn q)) last result after transition from base (Err cause, at, heard) says =
       let ends : result ≡ ended_step (Err (refused_request cause)) = subst (λ (t : RwHandTurn). IsStepAfter new.call t result) heard.0 says in
       subst (λ (r : Result Step CallerError). IfErr r (IsActRefused limits d old objects ask)) (sym ends) (inr (inr (query_refused ask q cause from base at)))
 
@@ -560,47 +560,47 @@ reply_at d base q (Err error) at refused = refused
 module _ (d : DatabaseValue) (core mid new : RwValue) (q : Query) (asking : mid ≡ record core { reading = Some q }) (none : core.reading ≡ None) where
   pub read_answer : (base : ℕ) (reply : Result Found DbError) (result : Result (Vec RowValue Global) TxnError) → RowsTransition mid q reply new result → IsReplyAt d base q reply
       → IfOk result (λ rows. rows.items ≡ answer q (state_at d.history base))
-  read_answer base (Ok found) (Ok rows) leads at = leads.0 ∙ at.rows
-  read_answer base (Ok found) (Err error) leads at = tt
-  read_answer base (Err cause) result leads at =
-      subst (λ (r : Result (Vec RowValue Global) TxnError). IfOk r (λ rows. rows.items ≡ answer q (state_at d.history base))) (sym leads.0) tt
+  read_answer base (Ok found) (Ok rows) transition at = transition.0 ∙ at.rows
+  read_answer base (Ok found) (Err error) transition at = tt
+  read_answer base (Err cause) result transition at =
+      subst (λ (r : Result (Vec RowValue Global) TxnError). IfOk r (λ rows. rows.items ≡ answer q (state_at d.history base))) (sym transition.0) tt
 
   pub read_after : (reply : Result Found DbError) (result : Result (Vec RowValue Global) TxnError) → RowsTransition mid q reply new result
       → IfOk result (λ rows. new ≡ record core { queried = core.queried ++ q ∷ []; answers = core.answers ++ given.Rows q rows.items ∷ [] })
-  read_after (Ok found) (Ok rows) leads =
-      leads.1
+  read_after (Ok found) (Ok rows) transition =
+      transition.1
       ∙ (ap (λ (v : RwValue). record v { queried = v.queried ++ q ∷ []; answers = v.answers ++ given.Rows q rows.items ∷ []; reading = None }) asking
       ∙ ap (λ (r : Option Query). record core { queried = core.queried ++ q ∷ []; answers = core.answers ++ given.Rows q rows.items ∷ []; reading = r }) (sym none))
-  read_after (Ok found) (Err error) leads = tt
-  read_after (Err cause) result leads =
-      subst (λ (r : Result (Vec RowValue Global) TxnError). IfOk r (λ rows. new ≡ record core { queried = core.queried ++ q ∷ []; answers = core.answers ++ given.Rows q rows.items ∷ [] })) (sym leads.0) tt
+  read_after (Ok found) (Err error) transition = tt
+  read_after (Err cause) result transition =
+      subst (λ (r : Result (Vec RowValue Global) TxnError). IfOk r (λ rows. new ≡ record core { queried = core.queried ++ q ∷ []; answers = core.answers ++ given.Rows q rows.items ∷ [] })) (sym transition.0) tt
 
   pub read_refused : (base : ℕ) (reply : Result Found DbError) (result : Result (Vec RowValue Global) TxnError) → RowsTransition mid q reply new result → IsReplyAt d base q reply
       → IfErr result (IsOwnReadRefused d base q)
-  read_refused base (Ok found) (Ok rows) leads at = tt
-  read_refused base (Ok found) (Err error) leads at = inl leads.0
-  read_refused base (Err cause) result leads at =
-      subst (λ (r : Result (Vec RowValue Global) TxnError). IfErr r (IsOwnReadRefused d base q)) (sym leads.0) (inr (cause, at, refl))
+  read_refused base (Ok found) (Ok rows) transition at = tt
+  read_refused base (Ok found) (Err error) transition at = inl transition.0
+  read_refused base (Err cause) result transition at =
+      subst (λ (r : Result (Vec RowValue Global) TxnError). IfErr r (IsOwnReadRefused d base q)) (sym transition.0) (inr (cause, at, refl))
 
   pub read_left : (reply : Result Found DbError) (result : Result (Vec RowValue Global) TxnError) → RowsTransition mid q reply new result → IfErr result (IsQueryLeft core q new)
-  read_left (Ok found) (Ok rows) leads = tt
-  read_left (Ok found) (Err error) leads =
+  read_left (Ok found) (Ok rows) transition = tt
+  read_left (Ok found) (Err error) transition =
       inr (
-        leads.0,
-        leads.1
+        transition.0,
+        transition.1
             ∙ (ap (λ (v : RwValue). record v { queried = v.queried ++ q ∷ []; reading = None }) asking
             ∙ ap (λ (r : Option Query). record core { queried = core.queried ++ q ∷ []; reading = r }) (sym none)),
       )
-  read_left (Err cause) result leads =
-      subst (λ (r : Result (Vec RowValue Global) TxnError). IfErr r (IsQueryLeft core q new)) (sym leads.0)
-      (inl (leads.1 ∙ (ap (λ (v : RwValue). record v { reading = None }) asking ∙ ap (λ (r : Option Query). record core { reading = r }) (sym none))))
+  read_left (Err cause) result transition =
+      subst (λ (r : Result (Vec RowValue Global) TxnError). IfErr r (IsQueryLeft core q new)) (sym transition.0)
+      (inl (transition.1 ∙ (ap (λ (v : RwValue). record v { reading = None }) asking ∙ ap (λ (r : Option Query). record core { reading = r }) (sym none))))
 
   pub read_call : (reply : Result Found DbError) (result : Result (Vec RowValue Global) TxnError) → RowsTransition mid q reply new result → new.call ≡ core.call
-  read_call (Ok found) (Ok rows) leads = ap (λ (v : RwValue). v.call) leads.1 ∙ ap (λ (v : RwValue). v.call) asking
-  read_call (Ok found) (Err error) leads = ap (λ (v : RwValue). v.call) leads.1 ∙ ap (λ (v : RwValue). v.call) asking
-  read_call (Err cause) result leads = ap (λ (v : RwValue). v.call) leads.1 ∙ ap (λ (v : RwValue). v.call) asking
+  read_call (Ok found) (Ok rows) transition = ap (λ (v : RwValue). v.call) transition.1 ∙ ap (λ (v : RwValue). v.call) asking
+  read_call (Ok found) (Err error) transition = ap (λ (v : RwValue). v.call) transition.1 ∙ ap (λ (v : RwValue). v.call) asking
+  read_call (Err cause) result transition = ap (λ (v : RwValue). v.call) transition.1 ∙ ap (λ (v : RwValue). v.call) asking
 
   pub read_rests : (reply : Result Found DbError) (result : Result (Vec RowValue Global) TxnError) → RowsTransition mid q reply new result → new.reading ≡ None
-  read_rests (Ok found) (Ok rows) leads = ap (λ (v : RwValue). v.reading) leads.1
-  read_rests (Ok found) (Err error) leads = ap (λ (v : RwValue). v.reading) leads.1
-  read_rests (Err cause) result leads = ap (λ (v : RwValue). v.reading) leads.1
+  read_rests (Ok found) (Ok rows) transition = ap (λ (v : RwValue). v.reading) transition.1
+  read_rests (Ok found) (Err error) transition = ap (λ (v : RwValue). v.reading) transition.1
+  read_rests (Err cause) result transition = ap (λ (v : RwValue). v.reading) transition.1

@@ -9,28 +9,28 @@ use Rattle.txc_db.specs.Calls.{IsBase, IsCommittable, IsCommitRefused, IsLeft}
 use Rattle.txc_db.specs.declared.error.DbError.{DbError}
 use Rattle.txc_db.specs.DatabaseValue.{DatabaseValue, after_commit, after_hold, front_of, newest}
 use Rattle.txc_db.specs.History.{History}
-use Rattle.txc_db.specs.Shared.{IsEventIn, IsQuietIn}
+use Rattle.txc_db.specs.DatabaseReply.{IsEventIn, IsQuietIn}
 use Rattle.txc_db.proofs.Committed.{commit_result}
 use Rattle.txc_db.proofs.Histories.{states_stay}
 use Rattle.txc_app.specs.Eval.{Next}
-use Rattle.txc_registry.specs.Objects.{Objects}
-use Rattle.txc_call.specs.Calling.{Calling}
+use Rattle.txc_call_registry.specs.Objects.{Objects}
+use Rattle.txc_call.specs.CallMachine.{Calling}
 use Rattle.txc_call.specs.Needs.{InNeed, NeedFits}
-use Rattle.txc_call.specs.Running.{NeedsFunction}
+use Rattle.txc_call.specs.CallSteps.{NeedsFunction}
 use Rattle.txc_call.specs.declared.need.Need.{Need}
 use Rattle.txc_shared.specs.Nodes.{NodeValue}
-use Rattle.txc_txn.specs.Core.{running_call}
-use Rattle.txc_rw.specs.ByHand.{IsRwByHand}
-use Rattle.txc_rw.specs.Core.{IsRwIdle, IsWriteRefused, ReadingFits, RwHolds, RwValue, tags_read}
-use Rattle.txc_rw.specs.declared.rw_core.TheConstants.{MAX_CHANGES}
-use Rattle.txc_rw.specs.Outcomes.{IsCommitted}
-use Rattle.txc_rw.proofs.Commits.{answer_lent, commits_are_right, event_tags_are_sound}
-use Rattle.txc_rw.proofs.Holding.{holds_in_longer}
-use Rattle.txc_ports.specs.declared.error.TxnError.{TxnError}
+use Rattle.txc_txn.specs.TxnCore.{running_call}
+use Rattle.txc_txn_rw.specs.ByHand.{IsRwByHand}
+use Rattle.txc_txn_rw.specs.RwCore.{IsRwIdle, IsWriteRefused, ReadingFits, RwHolds, RwValue, tags_read}
+use Rattle.txc_txn_rw.specs.declared.rw_core.TheConstants.{MAX_CHANGES}
+use Rattle.txc_txn_rw.specs.Outcomes.{IsCommitted}
+use Rattle.txc_txn_rw.proofs.Commits.{answer_lent, commits_are_right, event_tags_are_sound}
+use Rattle.txc_txn_rw.proofs.Holding.{holds_in_longer}
+use Rattle.txc_txn_ports.specs.declared.error.TxnError.{TxnError}
 use Rattle.txc_caller.specs.Ports.{CallerPorts, HasGrownDatabase, IsLetGo, MayHaveTaken}
-use Rattle.txc_caller.specs.Reading.{CallerValue, KeepsCaller}
-use Rattle.txc_caller.specs.Telling.{top_call}
-use Rattle.txc_caller.specs.Writing.{CallerWriting, ChangeLeaves, HasCommittedWrite, IsCallerWrite, IsWriteCommitRefused, IsWriteLeft, held_base}
+use Rattle.txc_caller.specs.CallerTxn.{CallerValue, KeepsCaller}
+use Rattle.txc_caller.specs.ComputedFunctions.{top_call}
+use Rattle.txc_caller.specs.CallerWrite.{CallerWriting, ChangeLeaves, HasCommittedWrite, IsCallerWrite, IsWriteCommitRefused, IsWriteLeft, held_base}
 use Rattle.txc_caller.specs.declared.step.WriteError.TheVariants as writes
 use Rattle.txc_caller.proofs.Letting.{let_go_history}
 

@@ -1,9 +1,9 @@
+pub mod ActRequests
 pub mod Budgets
+pub mod CallerAct
+pub mod CallerTxn
+pub mod CallerWrite
+pub mod ComputedFunctions
+pub mod NodeLookup
 pub mod Ports
-pub mod Looking
-pub mod Telling
-pub mod Reading
-pub mod Writing
-pub mod Acting
-pub mod Serving
-pub mod Pinning
+pub mod SparePins

@@ -11,7 +11,7 @@ use Rattle.txc_validity.specs.Answers.{IsAnswer}
 use Rattle.txc_node.specs.Cache.{bytes_of, lookup_answer, outcome, swept_count, trimmed_count}
 use Rattle.txc_node.specs.Counts.{trimmed_by}
 use Rattle.txc_node.specs.declared.entry.Entry.{Entry}
-use Rattle.txc_node.specs.declared.hit.Shown.{Shown}
+use Rattle.txc_node.specs.declared.hit.HitValue.{HitValue}
 use Rattle.txc_node.specs.declared.op.Op.{Op}
 use Rattle.txc_node.specs.declared.op.Op.TheVariants.{Event, Insert, Lookup, Sweep, Trim}
 use Rattle.txc_node.specs.declared.record.Record.{Record}
@@ -20,7 +20,7 @@ use Rattle.txc_db.specs.Room.{HasCapacity, AreTagsGone}
 use Rattle.txc_db.specs.Calls.{IsLeft, IsQueryRefused, IsPinRefused, IsUnpinRefused, IsVacuumRefused}
 use Rattle.txc_db.specs.DatabaseValue.{DatabaseValue, after_pin, after_unpin, after_vacuum, front_of, is_held, newest}
 use Rattle.txc_db.specs.History.{moment_at, state_at}
-use Rattle.txc_db.specs.Seen.{FrontValue}
+use Rattle.txc_db.specs.FrontsAndFeeds.{FrontValue}
 use Rattle.txc_db.specs.declared.answered.Answered.{Answered}
 use Rattle.txc_db.specs.declared.error.DbError.{DbError}
 use Rattle.txc_db.specs.declared.error.DbError.TheVariants.{Memory}
@@ -34,14 +34,14 @@ use Rattle.txc_shared.specs.Refusals.{IsLookupRefused, IsNodeLeft, IsStepRefused
 use Rattle.txc_shared.specs.declared.error.NodeError.{NodeError}
 use Rattle.txc_shared.specs.declared.insertion.Insertion.{Insertion}
 use Rattle.txc_shared.specs.declared.insertion.Insertion.TheVariants as insertions
-use Rattle.txc_ports.specs.declared.kept.Kept.{Kept}
-use Rattle.txc_ports.specs.declared.kept.Kept.TheVariants as kepts
-use Rattle.txc_ports.specs.Asking.{IsFoundOver, IsOfRow, IsReplyTo}
-use Rattle.txc_ports.specs.declared.request.PortRequest.{PortRequest}
-use Rattle.txc_ports.specs.declared.request.PortRequest.TheVariants as requests
-use Rattle.txc_ports.specs.declared.reply.PortReply.{PortReply}
-use Rattle.txc_ports.specs.Exchanges.{Exchange, IsExchange}
-use Rattle.txc_ports.specs.Exchanges as exchanges
+use Rattle.txc_txn_ports.specs.declared.kept.Kept.{Kept}
+use Rattle.txc_txn_ports.specs.declared.kept.Kept.TheVariants as kepts
+use Rattle.txc_txn_ports.specs.PortRequests.{IsFoundOver, IsOfRow, IsReplyTo}
+use Rattle.txc_txn_ports.specs.declared.request.PortRequest.{PortRequest}
+use Rattle.txc_txn_ports.specs.declared.request.PortRequest.TheVariants as requests
+use Rattle.txc_txn_ports.specs.declared.reply.PortReply.{PortReply}
+use Rattle.txc_txn_ports.specs.Exchanges.{Exchange, IsExchange}
+use Rattle.txc_txn_ports.specs.Exchanges as exchanges
 use Rattle.txc_caller.specs.declared.nodes.NodeTotals.{NodeTotals}
 use Rattle.txc_caller.specs.Budgets.{node_bytes, fits_alone, HasMadeRoomFor, IsInBudget}
 
@@ -160,7 +160,7 @@ abbrev pub HasRefusedLookup : NodeValue → ℕ → ℕ → NodeValue → Type 0
 HasRefusedLookup old lo hi new = (e : NodeError) × IsLookupRefused old lo hi e × IsNodeLeft old new e
 
 -- a lookup at exactly these stamps finds this, and is a step of the node; or the node fails, and has nothing
-abbrev pub CallerLookupTransition : Call → ℕ → ℕ → NodeValue → NodeValue → Option (Answered Shown) → Type 0
+abbrev pub CallerLookupTransition : Call → ℕ → ℕ → NodeValue → NodeValue → Option (Answered HitValue) → Type 0
 CallerLookupTransition key lo hi old new (Some hit) = (new ≡ after_call old 0 (Lookup key lo hi))
     × (lookup_answer old.cache key lo hi ≡ Some hit.answer) × (hit.front ≡ old.seen)
 CallerLookupTransition key lo hi old new None =
@@ -303,5 +303,5 @@ pub record HasAskedPorts (next : Next) (seen : FrontValue) (request : PortReques
     (reply : PortReply) : Type 0 where
   pub answer : IsReplyTo next request reply
   pub row : IsOfRow old.database.events reply
-  pub leads : IsExchange (CallerExchangeTransition seen old new) request reply
+  pub transition : IsExchange (CallerExchangeTransition seen old new) request reply
   pub grown : HasGrownDatabase old.database new.database

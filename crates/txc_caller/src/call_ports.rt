@@ -4,13 +4,13 @@ ghost use Rattle.txc_caller.specs.Ports.{HasGrownDatabase, IsLetGo};
 use std::alloc::Global;
 use txc_app::App;
 use txc_db::HistoryFront;
-use txc_ports::{PortReply, PortRequest};
 use txc_stamp::Stamp;
+use txc_txn_ports::{PortReply, PortRequest};
 
 /// The ports of a call.
 pub(crate) trait CallPorts<A: App> {
     ghost use Rattle.txc_caller.specs.Ports.{CallerPorts, HasAskedPorts};
-    ghost use Rattle.txc_ports.specs.Asking.{MayAsk};
+    ghost use Rattle.txc_txn_ports.specs.PortRequests.{MayAsk};
 
     // Their value in contracts.
     ghost ports: { Self → CallerPorts };

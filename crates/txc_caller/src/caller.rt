@@ -4,13 +4,13 @@ ghost use Rattle.txc_app.specs.Eval.{Next};
 ghost use Rattle.txc_cushion.specs.Cushion.{after_fresh, after_give_back, handed_out};
 ghost use Rattle.txc_cushion.specs.Refusals.{HaveUsers};
 ghost use Rattle.txc_db.specs.Refusals.{IsWant};
-ghost use Rattle.txc_registry.specs.Objects.{AllIdle, Objects};
+ghost use Rattle.txc_call_registry.specs.Objects.{AllIdle, Objects};
 ghost use Rattle.txc_shared.specs.Nodes.{start_of};
-ghost use Rattle.txc_txn.specs.Core.{value_of, CoreHolds, IsCore, IsIdle};
+ghost use Rattle.txc_txn.specs.TxnCore.{value_of, CoreHolds, IsCore, IsIdle};
 ghost use Rattle.txc_node.specs.declared.node.TheConstants.{MAX_RECENT, MOST_CAPACITY};
 ghost use Rattle.txc_stream.specs.declared.row.TheConstants.{MAX_CAPACITY as MAX_ROW};
 ghost use Rattle.txc_caller.specs.Ports.{GoesOnByEvents, HasEventRoom, HasGrownDatabase, HasNoEventFor, IsNewDatabase, StaysBehind};
-ghost use Rattle.txc_caller.specs.Reading.{IsBegunReading, KeepsCaller, CallerValue};
+ghost use Rattle.txc_caller.specs.CallerTxn.{IsBegunReading, KeepsCaller, CallerValue};
 ghost use Rattle.txc_db.specs.Calls.{IsBase, IsHoldable, IsHoldRefused};
 ghost use Rattle.txc_db.specs.DatabaseValue.{after_hold, newest};
 ghost use Rattle.txc_db.specs.Steps.{IsBaseRefused};
@@ -27,10 +27,10 @@ use std::marker::Model;
 use txc_app::App;
 use txc_cushion::{CushionCore, Pins};
 use txc_db::{DbError, RowStore};
-use txc_ports::Bounds;
 use txc_shared::NodeSettings;
 use txc_stamp::Stamp;
 use txc_txn::TxnCore;
+use txc_txn_ports::Bounds;
 
 /// A database, its pincushion and one node, of a caller that computes its own functions. Any number of its
 /// transactions can be open at once: each is a value of its own, and is lent the caller for each act.
@@ -50,7 +50,7 @@ impl<A: App> Drop for Caller<A> {
 }
 
 impl<A: App> Model for Caller<A> {
-    ghost use Rattle.txc_caller.specs.Reading.{CallerValue};
+    ghost use Rattle.txc_caller.specs.CallerTxn.{CallerValue};
 
     ghost Value = { CallerValue };
 
@@ -113,7 +113,7 @@ pub(crate) fn begun(
 }
 
 impl<A: App> Caller<A> {
-    ghost use Rattle.txc_caller.specs.Writing.{IsBegunWrite, IsWriteOf};
+    ghost use Rattle.txc_caller.specs.CallerWrite.{IsBegunWrite, IsWriteOf};
 
     /// Returns a caller with an empty database over this kind of store, an empty pincushion and an empty node.
     /// The database has room for `room` events; for `None` it stores none, and has room for 4,294,967,294.

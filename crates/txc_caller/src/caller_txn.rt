@@ -2,15 +2,15 @@
 ghost use Rattle.std.specs.Prelude.{◌≡◌, ◌≤◌, ◌↔◌, ◌∷◌, [], List, Err, IfErr, IfOk, IsOk, IsSome, IsTrue, MatchOption, None, OnErr, OnOk, Some};
 ghost use Rattle.txc_tags.specs.Keys.{Call};
 ghost use Rattle.txc_tags.specs.declared.key.TheConstants.{LAST_FUNCTION};
-ghost use Rattle.txc_registry.specs.Objects.{AllIdle};
-ghost use Rattle.txc_txn.specs.Core.{receipt_pin, Explains, IsIdle};
-ghost use Rattle.txc_txn.specs.Kept.{IsTxn};
+ghost use Rattle.txc_call_registry.specs.Objects.{AllIdle};
+ghost use Rattle.txc_txn.specs.TxnCore.{receipt_pin, Explains, IsIdle};
+ghost use Rattle.txc_txn.specs.RunningTxn.{IsTxn};
 ghost use Rattle.txc_txn.specs.Sessions.{IsAtLeast};
-ghost use Rattle.txc_caller.specs.Acting.{step_error, ActLeads};
-ghost use Rattle.txc_caller.specs.Looking.{IsComputedOnMiss};
+ghost use Rattle.txc_caller.specs.CallerAct.{step_error, CallerActTransition};
+ghost use Rattle.txc_caller.specs.NodeLookup.{IsComputedOnMiss};
 ghost use Rattle.txc_caller.specs.Ports.{HasGrownDatabase};
-ghost use Rattle.txc_caller.specs.Reading.{open_states, read_stamp, HasEndedReading, IsOf, IsReadingStep, KeepsCaller, KeepsTxn};
-ghost use Rattle.txc_caller.specs.Telling.{computed_calls, told_answer, top_call, top_or, AsksNext, IsToldAfterAsk, ObjectsFollow};
+ghost use Rattle.txc_caller.specs.CallerTxn.{open_states, read_stamp, HasEndedReading, IsOf, IsReadingStep, KeepsCaller, KeepsTxn};
+ghost use Rattle.txc_caller.specs.ComputedFunctions.{computed_calls, told_answer, top_call, top_or, AsksNext, IsToldAfterAsk, ObjectsFollow};
 ghost use Rattle.txc_caller.specs.declared.step.CallerError.TheVariants.{NoFunction};
 
 use crate::caller::Caller;
@@ -22,11 +22,11 @@ use std::marker::Model;
 use txc_app::{Answer, App, Ask, Bytes};
 use txc_cushion::Pin;
 use txc_pinset::Choice;
-use txc_ports::Recorded;
 use txc_rows::Query;
 use txc_stamp::Stamp;
 use txc_tags::Key;
 use txc_txn::Receipt;
+use txc_txn_ports::Recorded;
 
 /// A read-only transaction whose functions its caller computes. Let `A.next` be any functions that make the
 /// requests and return the values that the caller reports: the receipt explains each result by them.
@@ -46,8 +46,8 @@ impl<A: App> Drop for CallerTxn<A> {
 }
 
 impl<A: App> Model for CallerTxn<A> {
-    ghost use Rattle.txc_txn.specs.Kept.{TxnValue};
-    ghost use Rattle.txc_caller.specs.Reading.{IsCallerTxn};
+    ghost use Rattle.txc_txn.specs.RunningTxn.{TxnValue};
+    ghost use Rattle.txc_caller.specs.CallerTxn.{IsCallerTxn};
 
     ghost Value = { TxnValue };
 
@@ -71,10 +71,10 @@ impl<A: App> CallerTxn<A> {
         ensures told { IsToldAfterAsk A.next (open_states self.new.core) self.old.core.call ask self.new.core.call result }
         ensures objects { ObjectsFollow self.old.objects self.old.core.call ask self.new.objects result }
         ensures on_miss { IsComputedOnMiss self.new.core caller.old.ports.node caller.new.ports.node result }
-        ensures leads { ActLeads A.next.limits caller.old.ports self.old ask caller.new.ports self.new.core.taken
+        ensures transition { CallerActTransition A.next.limits caller.old.ports self.old ask caller.new.ports self.new.core.taken
             (step_error result) }
         ensures keeps { KeepsTxn self.old self.new }
-        ensures meant { IsTxn A.next self.new }
+        ensures valid { IsTxn A.next self.new }
         ensures caller { KeepsCaller caller.old caller.new }
         ensures grown { HasGrownDatabase caller.old.ports.database caller.new.ports.database }
     {
@@ -107,10 +107,10 @@ impl<A: App> CallerTxn<A> {
             self.new.core.call result }
         ensures objects { ObjectsFollow self.old.objects self.old.core.call (asks.Call key) self.new.objects result }
         ensures on_miss { IsComputedOnMiss self.new.core caller.old.ports.node caller.new.ports.node result }
-        ensures leads { ActLeads A.next.limits caller.old.ports self.old (asks.Call key) caller.new.ports self.new.core.taken
+        ensures transition { CallerActTransition A.next.limits caller.old.ports self.old (asks.Call key) caller.new.ports self.new.core.taken
             (step_error result) }
         ensures keeps { KeepsTxn self.old self.new }
-        ensures meant { IsTxn A.next self.new }
+        ensures valid { IsTxn A.next self.new }
         ensures caller { KeepsCaller caller.old caller.new }
         ensures grown { HasGrownDatabase caller.old.ports.database caller.new.ports.database }
     {
@@ -141,10 +141,10 @@ impl<A: App> CallerTxn<A> {
             self.new.core.call result }
         ensures objects { ObjectsFollow self.old.objects self.old.core.call (asks.Query query) self.new.objects result }
         ensures on_miss { IsComputedOnMiss self.new.core caller.old.ports.node caller.new.ports.node result }
-        ensures leads { ActLeads A.next.limits caller.old.ports self.old (asks.Query query) caller.new.ports self.new.core.taken
+        ensures transition { CallerActTransition A.next.limits caller.old.ports self.old (asks.Query query) caller.new.ports self.new.core.taken
             (step_error result) }
         ensures keeps { KeepsTxn self.old self.new }
-        ensures meant { IsTxn A.next self.new }
+        ensures valid { IsTxn A.next self.new }
         ensures caller { KeepsCaller caller.old caller.new }
         ensures grown { HasGrownDatabase caller.old.ports.database caller.new.ports.database }
     {
@@ -173,10 +173,10 @@ impl<A: App> CallerTxn<A> {
         ensures objects { ObjectsFollow self.old.objects self.old.core.call (asks.Done bytes.items)
             self.new.objects result }
         ensures on_miss { IsComputedOnMiss self.new.core caller.old.ports.node caller.new.ports.node result }
-        ensures leads { ActLeads A.next.limits caller.old.ports self.old (asks.Done bytes.items) caller.new.ports self.new.core.taken
+        ensures transition { CallerActTransition A.next.limits caller.old.ports self.old (asks.Done bytes.items) caller.new.ports self.new.core.taken
             (step_error result) }
         ensures keeps { KeepsTxn self.old self.new }
-        ensures meant { IsTxn A.next self.new }
+        ensures valid { IsTxn A.next self.new }
         ensures caller { KeepsCaller caller.old caller.new }
         ensures grown { HasGrownDatabase caller.old.ports.database caller.new.ports.database }
     {
@@ -191,7 +191,7 @@ impl<A: App> CallerTxn<A> {
         ensures same { self.new.core ≡ record self.old.core { call = self.new.core.call } }
         ensures objects { AllIdle self.new.objects }
         ensures keeps { KeepsTxn self.old self.new }
-        ensures meant { IsTxn A.next self.new }
+        ensures valid { IsTxn A.next self.new }
     {
         let was_open = self.is_computing();
         self.txn.give_up();

@@ -4,16 +4,16 @@ ghost use Rattle.txc_tags.specs.Keys.{Call};
 ghost use Rattle.txc_tags.specs.declared.key.TheConstants.{LAST_FUNCTION};
 ghost use Rattle.txc_rows.specs.States.{answer};
 ghost use Rattle.txc_db.specs.History.{state_at};
-ghost use Rattle.txc_db.specs.Shared.{IsEventIn, IsQuietIn};
-ghost use Rattle.txc_registry.specs.Objects.{numbers_of, AllIdle};
-ghost use Rattle.txc_rw.specs.Answers.{AreRightIn};
-ghost use Rattle.txc_rw.specs.Core.{tags_read, IsRwIdle};
-ghost use Rattle.txc_rw.specs.Outcomes.{IsCommitted};
-ghost use Rattle.txc_rw.specs.Transitions.{IsQueryLeft};
+ghost use Rattle.txc_db.specs.DatabaseReply.{IsEventIn, IsQuietIn};
+ghost use Rattle.txc_call_registry.specs.Objects.{numbers_of, AllIdle};
+ghost use Rattle.txc_txn_rw.specs.Answers.{AreRightIn};
+ghost use Rattle.txc_txn_rw.specs.RwCore.{tags_read, IsRwIdle};
+ghost use Rattle.txc_txn_rw.specs.Outcomes.{IsCommitted};
+ghost use Rattle.txc_txn_rw.specs.Transitions.{IsQueryLeft};
 ghost use Rattle.txc_caller.specs.Ports.{HasGrownDatabase};
-ghost use Rattle.txc_caller.specs.Reading.{CallerValue, KeepsCaller};
-ghost use Rattle.txc_caller.specs.Telling.{computed_calls, told_answer, top_call, top_or, AsksNext, IsToldAfterAsk, ObjectsFollow};
-ghost use Rattle.txc_caller.specs.Writing.{base_states, held_base, queried_for, HasAbortedWrite, HasCommittedWrite, IsActRefused, IsOwnReadRefused, IsWriteCommitRefused, IsWriteLeft, IsWriteOf, IsWritingStep};
+ghost use Rattle.txc_caller.specs.CallerTxn.{CallerValue, KeepsCaller};
+ghost use Rattle.txc_caller.specs.ComputedFunctions.{computed_calls, told_answer, top_call, top_or, AsksNext, IsToldAfterAsk, ObjectsFollow};
+ghost use Rattle.txc_caller.specs.CallerWrite.{base_states, held_base, queried_for, HasAbortedWrite, HasCommittedWrite, IsActRefused, IsOwnReadRefused, IsWriteCommitRefused, IsWriteLeft, IsWriteOf, IsWritingStep};
 ghost use Rattle.txc_caller.specs.declared.step.CallerError.TheVariants.{NoFunction};
 ghost use Rattle.txc_caller.specs.declared.step.Step.TheVariants as steps;
 
@@ -24,12 +24,12 @@ use crate::writing::{act, read};
 use std::alloc::Global;
 use std::marker::{Model, PhantomData};
 use txc_app::{Answer, App, Ask, Bytes};
-use txc_ports::TxnError;
+use txc_call_ghosts::GhostObjects;
 use txc_rows::{Change, Query, Row};
-use txc_rw::{Given, RwCore};
 use txc_stamp::Stamp;
 use txc_tags::{Key, Table};
-use txc_told::Told;
+use txc_txn_ports::TxnError;
+use txc_txn_rw::{Given, RwCore};
 
 /// A read-write transaction whose functions its caller computes. It reads the state of one stamp, its base,
 /// uses no node, and buffers its changes until it commits. It commits if nothing that it has read has changed
@@ -40,7 +40,7 @@ use txc_told::Told;
 /// if it is dropped, that hold stays.
 pub struct CallerWrite<A: App> {
     core: RwCore,
-    told: Told,
+    told: GhostObjects,
     is_held: bool,
     of: PhantomData<A>,
 }
@@ -58,7 +58,7 @@ impl<A: App> Drop for CallerWrite<A> {
 }
 
 impl<A: App> Model for CallerWrite<A> {
-    ghost use Rattle.txc_caller.specs.Writing.{CallerWriting, IsCallerWrite};
+    ghost use Rattle.txc_caller.specs.CallerWrite.{CallerWriting, IsCallerWrite};
 
     ghost Value = { CallerWriting };
 
@@ -70,8 +70,8 @@ impl<A: App> Model for CallerWrite<A> {
 
 impl<A: App> CallerWrite<A> {
     ghost use Rattle.txc_app.specs.declared.ask.Ask.TheVariants as asks;
-    ghost use Rattle.txc_call.specs.Running.{is_done};
-    ghost use Rattle.txc_caller.specs.Writing.{ChangeLeaves, IsBegunWrite};
+    ghost use Rattle.txc_call.specs.CallSteps.{is_done};
+    ghost use Rattle.txc_caller.specs.CallerWrite.{ChangeLeaves, IsBegunWrite};
 
     /// Returns a transaction over the state of that stamp.
     pub(crate) fn over(alloc: Global, base: Stamp, is_held: bool) -> CallerWrite<A>
@@ -79,7 +79,7 @@ impl<A: App> CallerWrite<A> {
     {
         CallerWrite {
             core: RwCore::begin(alloc, base),
-            told: Told::new(),
+            told: GhostObjects::new(),
             is_held,
             of: PhantomData,
         }
@@ -304,7 +304,7 @@ impl<A: App> CallerWrite<A> {
     }
 
     /// Buffers a put of the row at its table and id. The transaction's own reads do not see it. Fails if there
-    /// are [`txc_rw::MAX_CHANGES`] changes already, or memory cannot be allocated.
+    /// are [`txc_txn_rw::MAX_CHANGES`] changes already, or memory cannot be allocated.
     pub fn put(&mut self, row: Row) -> Result<(), TxnError>
         ensures { ChangeLeaves (Change.Put row) self.old self.new result }
     {

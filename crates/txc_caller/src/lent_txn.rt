@@ -3,29 +3,29 @@ ghost use Rattle.std.specs.Prelude.{◌≡◌, ◌≤◌, None, Some};
 ghost use Rattle.std.specs.Option.{ForSome};
 ghost use Rattle.txc_app.specs.Eval.{Next};
 ghost use Rattle.txc_tags.specs.declared.key.TheConstants.{LAST_FUNCTION};
-ghost use Rattle.txc_call.specs.Running.{NeedsFunction};
-ghost use Rattle.txc_ports.specs.Fronts.{front_of_reply};
+ghost use Rattle.txc_call.specs.CallSteps.{NeedsFunction};
+ghost use Rattle.txc_txn_ports.specs.Fronts.{front_of_reply};
 ghost use Rattle.txc_txn.specs.ByHand.{ObjectsLeft};
 ghost use Rattle.txc_tags.specs.Keys.{Call};
 ghost use Rattle.txc_app.specs.declared.ask.Ask.TheVariants as asks;
-ghost use Rattle.txc_registry.specs.Objects.{numbers_of, AllIdle, Objects};
-ghost use Rattle.txc_told.specs.Steps.{objects_after_ask};
-ghost use Rattle.txc_caller.specs.Telling.{AsksNext};
+ghost use Rattle.txc_call_registry.specs.Objects.{numbers_of, AllIdle, Objects};
+ghost use Rattle.txc_call_ghosts.specs.Steps.{objects_after_ask};
+ghost use Rattle.txc_caller.specs.ComputedFunctions.{AsksNext};
 
 use std::alloc::Global;
 use std::marker::{Model, PhantomData};
 use txc_app::{App, Ask};
+use txc_call_ghosts::GhostObjects;
 use txc_node::Value;
-use txc_ports::{PortReply, PortRequest, Turn};
 use txc_stamp::Stamp;
 use txc_tags::Key;
-use txc_told::Told;
-use txc_txn::{Left, Receipt, TxnCore};
+use txc_txn::{Receipt, TxnCore, Unfinished};
+use txc_txn_ports::{PortReply, PortRequest, Turn};
 
 /// A core, with the ghost objects of its functions. Its pin set is correct in the history that it has seen.
 pub(crate) struct LentTxn<A: App> {
     core: TxnCore,
-    told: Told,
+    told: GhostObjects,
     of: PhantomData<A>,
 }
 
@@ -41,9 +41,9 @@ impl<A: App> Drop for LentTxn<A> {
 }
 
 impl<A: App> Model for LentTxn<A> {
-    ghost use Rattle.txc_txn.specs.Core.{value_of};
-    ghost use Rattle.txc_txn.specs.Kept.{txn_value, TxnValue};
-    ghost use Rattle.txc_caller.specs.Reading.{IsLent};
+    ghost use Rattle.txc_txn.specs.TxnCore.{value_of};
+    ghost use Rattle.txc_txn.specs.RunningTxn.{txn_value, TxnValue};
+    ghost use Rattle.txc_caller.specs.CallerTxn.{IsLent};
 
     ghost Value = { TxnValue };
 
@@ -53,7 +53,7 @@ impl<A: App> Model for LentTxn<A> {
 }
 
 // Leaves the objects as they are, unless the call ended without a value: then all become idle.
-fn settle(turn: &Option<Turn<PortRequest, Value>>, told: &mut Told)
+fn settle(turn: &Option<Turn<PortRequest, Value>>, told: &mut GhostObjects)
     ensures left { ObjectsLeft told.old.objects turn.now told.new.objects }
     ensures functions { numbers_of told.new.objects ≡ numbers_of told.old.objects }
 {
@@ -64,9 +64,9 @@ fn settle(turn: &Option<Turn<PortRequest, Value>>, told: &mut Told)
 
 impl<A: App> LentTxn<A> {
     ghost use Rattle.txc_txn.specs.ByHand.{HasAskedByHand, HasGoneOnByHand};
-    ghost use Rattle.txc_txn.specs.Core.{left_pin, receipt_pin, value_of, CoreHolds, Explains, IsAnswered, IsCore, IsIdle};
-    ghost use Rattle.txc_txn.specs.Kept.{HasBegunCall, IsShownRight};
-    ghost use Rattle.txc_caller.specs.Reading.{IsLent};
+    ghost use Rattle.txc_txn.specs.TxnCore.{left_pin, receipt_pin, value_of, CoreHolds, Explains, IsAnswered, IsCore, IsIdle};
+    ghost use Rattle.txc_txn.specs.RunningTxn.{HasBegunCall, IsShownRight};
+    ghost use Rattle.txc_caller.specs.CallerTxn.{IsLent};
 
     /// Returns a transaction that has begun with this core.
     pub(crate) fn new(core: TxnCore) -> LentTxn<A>
@@ -81,7 +81,7 @@ impl<A: App> LentTxn<A> {
     {
         LentTxn {
             core,
-            told: Told::new(),
+            told: GhostObjects::new(),
             of: PhantomData,
         }
     }
@@ -180,7 +180,7 @@ impl<A: App> LentTxn<A> {
 
     /// Cancels the transaction, also in the middle of a call, and returns the remaining work. Does not
     /// allocate.
-    pub(crate) fn cancel(self) -> Left
+    pub(crate) fn cancel(self) -> Unfinished
         ensures give_back { result.give_back.items ≡ self.core.taken }
         ensures unpin { result.unpin ≡ left_pin self.core.pinning }
     {

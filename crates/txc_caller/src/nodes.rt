@@ -10,9 +10,9 @@ use std::alloc::Global;
 use txc_app::App;
 use txc_db::HistoryFront;
 use txc_node::Entry;
-use txc_ports::Kept;
 use txc_shared::{Advanced, Insertion, NodeError, StoredNode};
 use txc_tags::TagSet;
+use txc_txn_ports::Kept;
 
 /// Number and size of a node's entries, and how many of them trims have dropped.
 #[derive(Clone, Copy, Debug, PartialEq, Eq)]

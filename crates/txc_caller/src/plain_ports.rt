@@ -8,7 +8,7 @@ ghost use Rattle.txc_stream.specs.Names.{HasRow};
 ghost use Rattle.txc_stream.specs.declared.row.TheConstants.{MAX_CAPACITY as MAX_ROW};
 ghost use Rattle.txc_shared.specs.Nodes.{start_of};
 ghost use Rattle.txc_caller.specs.Ports.{CallerFindTransition, AreLetGo, AreGivenBack, HasGrownDatabase, HasEventRoom, HasNoEventFor, GoesOnByEvents, IsLetGo, IsNewDatabase, StaysBehind};
-ghost use Rattle.txc_caller.specs.Pinning.{HasNotPinned, HasPinnedNewest};
+ghost use Rattle.txc_caller.specs.SparePins.{HasNotPinned, HasPinnedNewest};
 
 use crate::call_ports::CallPorts;
 use crate::nodes;
@@ -19,11 +19,11 @@ use txc_app::App;
 use txc_app::laws::found_rows_give_true_entries;
 use txc_cushion::CushionCore;
 use txc_db::{Answered, DbCore, DbError, HistoryFront, RowStore};
-use txc_ports::{PortReply, PortRequest};
 use txc_rows::{MOST_MATCHING, Query};
 use txc_shared::{NodeSettings, StoredNode};
 use txc_stamp::Stamp;
-use txc_stream::Pen;
+use txc_stream::AppendToken;
+use txc_txn_ports::{PortReply, PortRequest};
 use txc_validity::Found;
 
 /// A database, its pincushion, and one node that takes its events. None has a lock. The node's values are
@@ -62,7 +62,7 @@ fn empty_database(alloc: Global, rows: RowStore, room: Option<usize>) -> Result<
 {
     let mut database = match room {
         Some(events) => DbCore::new_over(alloc, rows, events)?,
-        None => DbCore::unstored_over(alloc, rows, Pen::new())?,
+        None => DbCore::unstored_over(alloc, rows, AppendToken::new())?,
     };
     database.allow(MOST_MATCHING);
     Ok(database)
@@ -112,7 +112,7 @@ fn find(
     stamp: Stamp,
 ) -> Result<Answered<Found>, DbError>
     ensures same { database.new ≡ database.old }
-    ensures leads { CallerFindTransition query.now stamp database.old result }
+    ensures transition { CallerFindTransition query.now stamp database.old result }
 {
     found_rows_give_true_entries();
     let answer = database.query(alloc, query, stamp)?;
@@ -135,7 +135,7 @@ fn around<A: App>(
     ensures whole { IfOk result (λ it. it.1.broken ≡ false) }
     ensures cache { IfOk result (λ it. it.1.cache ≡ start_of settings 0) }
 {
-    let mut node = StoredNode::unstored(alloc, settings, Pen::new(), seen.again()?)?;
+    let mut node = StoredNode::unstored(alloc, settings, AppendToken::new(), seen.again()?)?;
     match node.pass() {
         Ok(_) => Ok((CushionCore::new(alloc, seen), node)),
         Err(_) => Err(AllocError),

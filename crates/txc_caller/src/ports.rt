@@ -7,11 +7,11 @@ ghost use Rattle.txc_db.specs.History.{state_at};
 ghost use Rattle.txc_db.specs.Steps.{IsBaseRefused};
 ghost use Rattle.txc_rows.specs.RowTags.{query_tag};
 ghost use Rattle.txc_validity.specs.Answers.{IsAnswer};
-ghost use Rattle.txc_txn.specs.Core.{value_of};
-ghost use Rattle.txc_caller.specs.Reading.{IsBegunCore};
+ghost use Rattle.txc_txn.specs.TxnCore.{value_of};
+ghost use Rattle.txc_caller.specs.CallerTxn.{IsBegunCore};
 ghost use Rattle.txc_caller.specs.Budgets.{IsInBudget};
 ghost use Rattle.txc_caller.specs.Ports.{AreGivenBack, totals_of, CallerSweepTransition, CallerTrimTransition, GoesOnByEvents, HasGrownDatabase, HasNoEventFor, HasRetired, HasVacuumedPorts, IsKeepRefused, MayHaveTaken, StaysBehind};
-ghost use Rattle.txc_caller.specs.Pinning.{HasNotPinned, HasPinnedNewest};
+ghost use Rattle.txc_caller.specs.SparePins.{HasNotPinned, HasPinnedNewest};
 
 use crate::call_ports::CallPorts;
 use crate::caller::begun;
@@ -23,12 +23,12 @@ use std::alloc::{AllocError, Global};
 use std::marker::Model;
 use txc_app::App;
 use txc_db::{DbError, HistoryFront};
-use txc_ports::{Bounds, PortReply, PortRequest};
 use txc_rows::{Change, Query};
 use txc_shared::NodeError;
 use txc_stamp::Stamp;
 use txc_tags::TagSet;
 use txc_txn::TxnCore;
+use txc_txn_ports::{Bounds, PortReply, PortRequest};
 use txc_validity::Found;
 
 /// A database, its pincushion, and one node that takes its events, behind a pointer. A method takes them out,
@@ -250,7 +250,7 @@ impl<A: App> Ports<A> {
 
     /// Lets the node drop the entries whose span ends at the horizon or before it. Returns how many.
     pub(crate) fn sweep(&mut self, alloc: Global, horizon: Stamp) -> Result<usize, NodeError>
-        ensures leads { CallerSweepTransition horizon self.old.node self.new.node result }
+        ensures transition { CallerSweepTransition horizon self.old.node self.new.node result }
         ensures same { self.new ≡ record self.old { node = self.new.node } }
     {
         let mut plain = self.slot.take(self.alloc);
@@ -262,7 +262,7 @@ impl<A: App> Ports<A> {
     /// Lets the node keep the longest prefix of its entries whose values have at most `most` bytes in all.
     /// Returns how many entries it dropped.
     pub(crate) fn trim(&mut self, alloc: Global, most: usize) -> Result<usize, NodeError>
-        ensures leads { CallerTrimTransition most self.old.node self.new.node result }
+        ensures transition { CallerTrimTransition most self.old.node self.new.node result }
         ensures same { self.new ≡ record self.old { node = self.new.node } }
     {
         let mut plain = self.slot.take(self.alloc);

@@ -7,7 +7,7 @@ use std::alloc::Global;
 use std::marker::Model;
 use std::{mem, ptr};
 use txc_app::App;
-use txc_parts::Parts;
+use txc_base::Parts;
 
 /// A pointer to ports, or to none.
 ///
@@ -31,7 +31,7 @@ impl<A: App> Drop for PortsSlot<A> {
 
 impl<A: App> Model for PortsSlot<A> {
     ghost use Rattle.std.specs.Box.Ownership.{box_owns};
-    ghost use Rattle.txc_rows.specs.Owned.{when};
+    ghost use Rattle.txc_rows.specs.HandleOwnership.{when};
     ghost use Rattle.txc_caller.specs.contracts.plain_ports.PlainPorts.{the_row};
     ghost use Rattle.std.specs.contracts.impls.GlobalAllocator.TheImpl.{ghosts};
 

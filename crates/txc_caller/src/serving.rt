@@ -2,11 +2,11 @@
 ghost use Rattle.std.specs.Prelude.{◌≡◌, ◌≢◌, true, None, Some};
 ghost use Rattle.txc_tags.specs.Keys.{Call};
 ghost use Rattle.txc_call.specs.declared.need.Need.{Need};
-ghost use Rattle.txc_caller.specs.Looking.{HasMissed, IsComputedOnMiss, IsLookedUp};
+ghost use Rattle.txc_caller.specs.NodeLookup.{HasMissed, IsComputedOnMiss, IsLookedUp};
 ghost use Rattle.txc_caller.specs.Ports.{is_of_pin, HasAskedPorts, HasGrownDatabase};
-ghost use Rattle.txc_caller.specs.Reading.{IsLent};
-ghost use Rattle.txc_caller.specs.Serving.{pins_to_come, turn_error, HasMadeRequest, HasPassed, HasServed, IsGoing, IsRightReplyTo, LeadsBy, TurnLeads};
-ghost use Rattle.txc_caller.specs.Acting.{step_error};
+ghost use Rattle.txc_caller.specs.CallerTxn.{IsLent};
+ghost use Rattle.txc_caller.specs.ActRequests.{pins_to_come, turn_error, HasMadeRequest, HasPassed, HasServed, IsGoing, IsRightReplyTo, TransitionBy, TurnTransition};
+ghost use Rattle.txc_caller.specs.CallerAct.{step_error};
 
 use crate::call_ports::CallPorts;
 use crate::lent_txn::LentTxn;
@@ -14,7 +14,7 @@ use crate::step::{CallerError, Step, ended};
 use std::alloc::Global;
 use txc_app::App;
 use txc_node::Value;
-use txc_ports::{PortReply, PortRequest, Turn};
+use txc_txn_ports::{PortReply, PortRequest, Turn};
 
 /// The next step of a transaction: a turn, or `None` if a function must begin or continue first.
 pub(crate) type HandTurn = Option<Turn<PortRequest, Value>>;
@@ -61,7 +61,7 @@ fn pass_pin<A: App, P: CallPorts<A>>(
 ) -> HandTurn
     requires { IsGoing (P.ports ports.old).database.events txn.old.core turn }
     ensures passed { HasPassed (P.ports ports.old).database.events txn.old turn txn.new result }
-    ensures leads { LeadsBy txn.old.core (P.ports ports.old) turn txn.new.core (P.ports ports.new) result }
+    ensures transition { TransitionBy txn.old.core (P.ports ports.old) turn txn.new.core (P.ports ports.new) result }
     ensures node { (P.ports ports.new).node ≡ (P.ports ports.old).node }
     ensures grown { HasGrownDatabase (P.ports ports.old).database (P.ports ports.new).database }
 {
@@ -88,7 +88,7 @@ fn pass_pins<A: App, P: CallPorts<A>>(
 ) -> HandTurn
     requires { IsGoing (P.ports ports.old).database.events txn.old.core turn }
     ensures passed { HasPassed (P.ports ports.old).database.events txn.old turn txn.new result }
-    ensures leads { LeadsBy txn.old.core (P.ports ports.old) turn txn.new.core (P.ports ports.new) result }
+    ensures transition { TransitionBy txn.old.core (P.ports ports.old) turn txn.new.core (P.ports ports.new) result }
     ensures last { pins_to_come result ≡ 0 }
     ensures node { (P.ports ports.new).node ≡ (P.ports ports.old).node }
     ensures grown { HasGrownDatabase (P.ports ports.old).database (P.ports ports.new).database }
@@ -109,7 +109,7 @@ fn pass_last<A: App, P: CallPorts<A>>(
     requires last { pins_to_come turn ≡ 0 }
     requires looked_up { (k : Call) → turn ≡ None → txn.old.core.call.need ≢ Some (Need.Begin k) }
     ensures made { HasMadeRequest txn.old turn txn.new result }
-    ensures leads { TurnLeads txn.old.core (P.ports ports.old) turn (P.ports ports.new) txn.new.core.taken
+    ensures transition { TurnTransition txn.old.core (P.ports ports.old) turn (P.ports ports.new) txn.new.core.taken
         (turn_error result) }
     ensures missed { (k : Call) → result ≡ None → txn.new.core.call.need ≡ Some (Need.Begin k)
         → HasMissed txn.new.core.pins.members k (P.ports ports.old).node (P.ports ports.new).node }
@@ -136,7 +136,7 @@ pub(crate) fn serve<A: App, P: CallPorts<A>>(
     requires going { IsGoing (P.ports ports.old).database.events txn.old.core turn }
     requires looked_up { (k : Call) → turn ≡ None → txn.old.core.call.need ≢ Some (Need.Begin k) }
     ensures served { HasServed txn.old turn txn.new result }
-    ensures leads { TurnLeads txn.old.core (P.ports ports.old) turn (P.ports ports.new) txn.new.core.taken
+    ensures transition { TurnTransition txn.old.core (P.ports ports.old) turn (P.ports ports.new) txn.new.core.taken
         (step_error result) }
     ensures on_miss { IsComputedOnMiss txn.new.core (P.ports ports.old).node (P.ports ports.new).node result }
     ensures grown { HasGrownDatabase (P.ports ports.old).database (P.ports ports.new).database }

@@ -1,14 +1,14 @@
 ghost use Rattle.std.specs.Prelude.{◌≡◌};
-ghost use Rattle.txc_call.specs.Running.{NeedsFunction};
-ghost use Rattle.txc_caller.specs.Telling.{ended_step, is_begin, IsNextStep};
+ghost use Rattle.txc_call.specs.CallSteps.{NeedsFunction};
+ghost use Rattle.txc_caller.specs.ComputedFunctions.{ended_step, is_begin, IsNextStep};
 
 use thiserror::Error;
 use txc_call::{CallMachine, Need};
 use txc_db::DbError;
 use txc_node::Value;
-use txc_ports::TxnError;
-use txc_rw::Given;
 use txc_stamp::Stamp;
+use txc_txn_ports::TxnError;
+use txc_txn_rw::Given;
 
 /// The next step of the caller.
 #[derive(Debug, Drop)]

@@ -6,37 +6,37 @@ ghost use Rattle.txc_db.specs.Calls.{IsQueryRefused};
 ghost use Rattle.txc_db.specs.History.{History, state_at};
 ghost use Rattle.txc_rows.specs.States.{answer};
 ghost use Rattle.txc_rows.specs.declared.query.Query.{Query};
-ghost use Rattle.txc_app.specs.Answering.{IsRight};
+ghost use Rattle.txc_app.specs.AnswersSoFar.{IsRight};
 ghost use Rattle.txc_app.specs.Eval.{Next};
 ghost use Rattle.txc_app.specs.declared.ask.Ask.TheVariants as asks;
 ghost use Rattle.txc_call.specs.Frames.{answers_in};
-ghost use Rattle.txc_call.specs.Running.{is_done, NeedsFunction};
+ghost use Rattle.txc_call.specs.CallSteps.{is_done, NeedsFunction};
 ghost use Rattle.txc_call.specs.declared.frame.Frame.{Frame};
 ghost use Rattle.txc_call.specs.declared.need.HeldAnswer.{HeldAnswer};
 ghost use Rattle.txc_call.specs.declared.need.Need.{Need};
-ghost use Rattle.txc_registry.specs.Objects.{numbers_of, Objects};
-ghost use Rattle.txc_rw.specs.ByHand.{IsRwByHand, IsRwHandTurn, RwObjectsLeft};
-ghost use Rattle.txc_rw.specs.Core.{IsFoundAt, RwHolds};
-ghost use Rattle.txc_rw.specs.Transitions.{IsQueryLeft};
-ghost use Rattle.txc_rw.specs.declared.given.Given.{Given};
-ghost use Rattle.txc_caller.specs.Telling.{top_call, AsksNext, HaveAllFunctions, IsNextStep, IsToldAfterAsk, ObjectsFollow};
-ghost use Rattle.txc_caller.specs.Writing.{base_states_in, queried_for, HasLed, IsActRefused, IsHeard, IsOwnReadRefused, IsStepAfter, IsWritingStep};
+ghost use Rattle.txc_call_registry.specs.Objects.{numbers_of, Objects};
+ghost use Rattle.txc_txn_rw.specs.ByHand.{IsRwByHand, IsRwHandTurn, RwObjectsLeft};
+ghost use Rattle.txc_txn_rw.specs.RwCore.{IsFoundAt, RwHolds};
+ghost use Rattle.txc_txn_rw.specs.Transitions.{IsQueryLeft};
+ghost use Rattle.txc_txn_rw.specs.declared.given.Given.{Given};
+ghost use Rattle.txc_caller.specs.ComputedFunctions.{top_call, AsksNext, HaveAllFunctions, IsNextStep, IsToldAfterAsk, ObjectsFollow};
+ghost use Rattle.txc_caller.specs.CallerWrite.{base_states_in, queried_for, HasLed, IsActRefused, IsHeard, IsOwnReadRefused, IsStepAfter, IsWritingStep};
 
 use crate::ports::Ports;
 use crate::step::{CallerError, Step, ended};
 use std::alloc::Global;
 use txc_app::{App, Ask};
+use txc_call_ghosts::GhostObjects;
 use txc_db::DbError;
 use txc_node::Value;
-use txc_ports::{Turn, TxnError};
 use txc_rows::{Query, Row};
-use txc_rw::RwCore;
 use txc_stamp::Stamp;
-use txc_told::Told;
+use txc_txn_ports::{Turn, TxnError};
+use txc_txn_rw::RwCore;
 use txc_validity::Found;
 
 // Leaves the objects as they are, unless the call ended without a value: then all become idle.
-fn settle(turn: &Option<Turn<Query, Value>>, told: &mut Told)
+fn settle(turn: &Option<Turn<Query, Value>>, told: &mut GhostObjects)
     ensures left { RwObjectsLeft told.old.objects turn.now told.new.objects }
     ensures functions { numbers_of told.new.objects ≡ numbers_of told.old.objects }
 {
@@ -157,7 +157,7 @@ pub(crate) fn act<A: App>(
     alloc: Global,
     ports: &mut Ports<A>,
     core: &mut RwCore,
-    told: &mut Told,
+    told: &mut GhostObjects,
     ask: Ask,
 ) -> Result<Step, CallerError>
     requires fits { IsRwByHand A.next told.old.objects core.old }

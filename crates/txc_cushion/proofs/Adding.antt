@@ -12,7 +12,7 @@ use Rattle.txc_stream.proofs.Offered.{prefix_get, prefix_length, prefix_whole}
 use Rattle.txc_db.specs.Facts.{EventValue}
 use Rattle.txc_db.specs.History.{History, moment_at, pinned_moment}
 use Rattle.txc_cushion.specs.declared.entry.PinEntry.{PinEntry}
-use Rattle.txc_cushion.specs.Entries.{EntriesFall, is_pinned, with_entry}
+use Rattle.txc_cushion.specs.Entries.{EntriesDescend, is_pinned, with_entry}
 use Rattle.txc_cushion.specs.Cushion.{CushionValue, IsCushion, longer_of}
 use Rattle.txc_cushion.specs.Refusals.{IsAddable}
 use Rattle.txc_cushion.proofs.Falling.{falls_head, falls_tail}
@@ -31,7 +31,7 @@ all_below s (e ∷ es) h =
     (rw not_newer rest.0, rw older (ap (λ (l : List PinEntry). e ∷ l) rest.1))
 
 -- below the first entry, all are
-below_first : (s : ℕ) (e : PinEntry) (es : List PinEntry) → EntriesFall (e ∷ es) → e.pin.stamp < s → All (λ o. o.pin.stamp < s) (e ∷ es)
+below_first : (s : ℕ) (e : PinEntry) (es : List PinEntry) → EntriesDescend (e ∷ es) → e.pin.stamp < s → All (λ o. o.pin.stamp < s) (e ∷ es)
 below_first s e es falls less =
     All-cons (λ (o : PinEntry). o.pin.stamp < s) e es less
     (All-weaker (λ (o : PinEntry). o.pin.stamp < e.pin.stamp) (λ (o : PinEntry). o.pin.stamp < s) (λ o h. omega (arith, h, less)) es (falls_head e es falls))
@@ -44,7 +44,7 @@ goes_on new e es less =
     rw (newer, not_older) refl
 
 -- it stands before all that are below it
-pub stands_first : (new e : PinEntry) (es : List PinEntry) → EntriesFall (e ∷ es) → e.pin.stamp < new.pin.stamp → with_entry new (e ∷ es) ≡ new ∷ e ∷ es
+pub stands_first : (new e : PinEntry) (es : List PinEntry) → EntriesDescend (e ∷ es) → e.pin.stamp < new.pin.stamp → with_entry new (e ∷ es) ≡ new ∷ e ∷ es
 stands_first new e es falls less =
     let all = all_below new.pin.stamp (e ∷ es) (below_first new.pin.stamp e es falls less) in
     ap (λ (l : List PinEntry). l ++ new ∷ filter (λ (o : PinEntry). nat_lt o.pin.stamp new.pin.stamp) (e ∷ es)) all.0
@@ -60,7 +60,7 @@ not_after s e es absent = go (e.pin.stamp == s) absent
     go true h = absurd (let f = h in cc)
     go false h = h
 
-pub insert_is : (new : PinEntry) (es : List PinEntry) → EntriesFall es → is_pinned new.pin.stamp es ≡ false
+pub insert_is : (new : PinEntry) (es : List PinEntry) → EntriesDescend es → is_pinned new.pin.stamp es ≡ false
     → insert es (length (filter (λ e. nat_lt new.pin.stamp e.pin.stamp) es)) new ≡ with_entry new es
 insert_is new [] falls absent = refl
 insert_is new (e ∷ es) falls absent = go (cases_order new.pin.stamp e.pin.stamp) (insert_is new es (falls_tail e es falls) (not_after new.pin.stamp e es absent))
@@ -79,11 +79,11 @@ insert_is new (e ∷ es) falls absent = go (cases_order new.pin.stamp e.pin.stam
 
 -- ---- the list with it
 
-pub with_entry_falls : (new : PinEntry) (es : List PinEntry) → EntriesFall es → is_pinned new.pin.stamp es ≡ false → EntriesFall (with_entry new es)
+pub with_entry_falls : (new : PinEntry) (es : List PinEntry) → EntriesDescend es → is_pinned new.pin.stamp es ≡ false → EntriesDescend (with_entry new es)
 with_entry_falls new [] falls absent = AllPairs-cons (λ (newer older : PinEntry). older.pin.stamp < newer.pin.stamp) new [] (All-nil _) falls
 with_entry_falls new (e ∷ es) falls absent = go (cases_order new.pin.stamp e.pin.stamp) (with_entry_falls new es (falls_tail e es falls) (not_after new.pin.stamp e es absent))
   where
-    go : (new.pin.stamp ≡ e.pin.stamp) ⊎ ((new.pin.stamp < e.pin.stamp) ⊎ (e.pin.stamp < new.pin.stamp)) → EntriesFall (with_entry new es) → EntriesFall (with_entry new (e ∷ es))
+    go : (new.pin.stamp ≡ e.pin.stamp) ⊎ ((new.pin.stamp < e.pin.stamp) ⊎ (e.pin.stamp < new.pin.stamp)) → EntriesDescend (with_entry new es) → EntriesDescend (with_entry new (e ∷ es))
     go (inl same) rest = absurd (not_first new.pin.stamp e es absent (sym same))
     go (inr (inl less)) rest =
         let head = falls_head e es falls in
@@ -92,12 +92,12 @@ with_entry_falls new (e ∷ es) falls absent = go (cases_order new.pin.stamp e.p
         (All-filter (λ (o : PinEntry). nat_lt new.pin.stamp o.pin.stamp) (λ (o : PinEntry). o.pin.stamp < e.pin.stamp) es head)
         (All-cons (λ (o : PinEntry). o.pin.stamp < e.pin.stamp) new (filter (λ (o : PinEntry). nat_lt o.pin.stamp new.pin.stamp) es) less (All-filter (λ (o : PinEntry). nat_lt o.pin.stamp new.pin.stamp) (λ (o : PinEntry). o.pin.stamp < e.pin.stamp) es head))
         in
-        subst EntriesFall (sym (goes_on new e es less)) (AllPairs-cons (λ (newer older : PinEntry). older.pin.stamp < newer.pin.stamp) e (with_entry new es) below rest)
+        subst EntriesDescend (sym (goes_on new e es less)) (AllPairs-cons (λ (newer older : PinEntry). older.pin.stamp < newer.pin.stamp) e (with_entry new es) below rest)
     go (inr (inr less)) rest =
-        subst EntriesFall (sym (stands_first new e es falls less))
+        subst EntriesDescend (sym (stands_first new e es falls less))
         (AllPairs-cons (λ (newer older : PinEntry). older.pin.stamp < newer.pin.stamp) new (e ∷ es) (below_first new.pin.stamp e es falls less) falls)
 
-pub length_with_entry : (new : PinEntry) (es : List PinEntry) → EntriesFall es → is_pinned new.pin.stamp es ≡ false → length (with_entry new es) ≡ length es + 1
+pub length_with_entry : (new : PinEntry) (es : List PinEntry) → EntriesDescend es → is_pinned new.pin.stamp es ≡ false → length (with_entry new es) ≡ length es + 1
 length_with_entry new es falls absent =
     let count = length-filter (λ (e : PinEntry). nat_lt new.pin.stamp e.pin.stamp) es in
     let most = count_by-le-length (λ (e : PinEntry). nat_lt new.pin.stamp e.pin.stamp) es in

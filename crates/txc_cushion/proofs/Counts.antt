@@ -9,8 +9,8 @@ use Rattle.std.proofs.lemmas.List.Sums.{sum_by-cons, sum_by-append}
 use Rattle.txc_cushion.specs.declared.pin.Pin.{Pin}
 use Rattle.txc_cushion.specs.declared.entry.PinEntry.{PinEntry}
 use Rattle.txc_cushion.specs.declared.limits.TheConstants.{MAX_HANDED_OUT}
-use Rattle.txc_cushion.specs.Pinning.{Falls, pin_of}
-use Rattle.txc_cushion.specs.Entries.{EntriesFall, stamps_of, is_pinned, users_of, times, may_be_handed_out, is_among, with_user, without_users, with_entry, is_retirable}
+use Rattle.txc_cushion.specs.Pin.{PinsDescend, pin_of}
+use Rattle.txc_cushion.specs.Entries.{EntriesDescend, stamps_of, is_pinned, users_of, times, may_be_handed_out, is_among, with_user, without_users, with_entry, is_retirable}
 use Rattle.txc_cushion.specs.Cushion.{CushionValue, IsCushion, handed_out}
 use Rattle.txc_cushion.specs.Laws.{PinsEachStampOnce, FreshCountsUsers, HandsOutTheNewest, AddCountsOnePin, GiveBackCountsUsers, RetireCountsTheUnused}
 use Rattle.txc_cushion.proofs.Falling.{falls_head, falls_tail, falls_filter}
@@ -39,12 +39,12 @@ none_below t (e ∷ es) below =
     (times_off t e.pin.stamp (stamps_of es) off ∙ rest.0, rw off rest.1)
 
 -- below an entry of this stamp it is not there again
-none_after : (t : ℕ) (e : PinEntry) (es : List PinEntry) → EntriesFall (e ∷ es) → (e.pin.stamp == t) ≡ true → (times t (stamps_of es) ≡ 0) × (users_of t es ≡ 0)
+none_after : (t : ℕ) (e : PinEntry) (es : List PinEntry) → EntriesDescend (e ∷ es) → (e.pin.stamp == t) ≡ true → (times t (stamps_of es) ≡ 0) × (users_of t es ≡ 0)
 none_after t e es falls here =
     let same : e.pin.stamp ≡ t = eqb-true e.pin.stamp t here in
     none_below t es (rw (← same) (falls_head e es falls))
 
-at_most_once : (t : ℕ) (es : List PinEntry) → EntriesFall es → (times t (stamps_of es) ≤ 1) × (times t (stamps_of es) ≡ 0 → users_of t es ≡ 0)
+at_most_once : (t : ℕ) (es : List PinEntry) → EntriesDescend es → (times t (stamps_of es) ≤ 1) × (times t (stamps_of es) ≡ 0 → users_of t es ≡ 0)
 at_most_once t [] falls = (omega arith, λ _. refl)
 at_most_once t (e ∷ es) falls = go (e.pin.stamp == t) refl (at_most_once t es (falls_tail e es falls))
   where
@@ -102,7 +102,7 @@ users_with t pins (e ∷ es) = go (e.pin.stamp == t) refl (users_with t pins es)
     go false is rest = rw (pin_same, is) rest
 
 -- of pins that fall, a stamp is among them at most once
-among_times : (t : ℕ) (pins : List Pin) → Falls pins → times t (map (λ p. p.stamp) pins) ≡ one_if (is_among t pins)
+among_times : (t : ℕ) (pins : List Pin) → PinsDescend pins → times t (map (λ p. p.stamp) pins) ≡ one_if (is_among t pins)
 among_times t [] falls = refl
 among_times t (p ∷ ps) falls = go (p.stamp == t) refl (among_times t ps (λ i j d less below. falls (suc i) (suc j) d (omega (arith, less)) (omega (arith, below))))
   where
@@ -200,7 +200,7 @@ absent_none t (e ∷ es) absent = go (e.pin.stamp == t) refl (absent_none t es (
     go true is rest = absurd (not_first t e es absent (eqb-true e.pin.stamp t is))
     go false is rest = rw is rest
 
-users_added : (t : ℕ) (new : PinEntry) (es : List PinEntry) → EntriesFall es → is_pinned new.pin.stamp es ≡ false
+users_added : (t : ℕ) (new : PinEntry) (es : List PinEntry) → EntriesDescend es → is_pinned new.pin.stamp es ≡ false
     → users_of t (with_entry new es) ≡ users_of t es + cond (new.pin.stamp == t) new.users 0
 users_added t new [] falls absent = sym (zero-add (cond (new.pin.stamp == t) new.users 0))
 users_added t new (e ∷ es) falls absent = go (cases_order new.pin.stamp e.pin.stamp) (users_added t new es (falls_tail e es falls) (not_after new.pin.stamp e es absent))
@@ -226,7 +226,7 @@ users_added t new (e ∷ es) falls absent = go (cases_order new.pin.stamp e.pin.
     go (inr (inl less)) rest = ap (users_of t) (goes_on new e es less) ∙ first less (e.pin.stamp == t) refl rest
     go (inr (inr less)) rest = ap (users_of t) (stands_first new e es falls less) ∙ before (new.pin.stamp == t) refl
 
-stamps_added : (t : ℕ) (new : PinEntry) (es : List PinEntry) → EntriesFall es → is_pinned new.pin.stamp es ≡ false
+stamps_added : (t : ℕ) (new : PinEntry) (es : List PinEntry) → EntriesDescend es → is_pinned new.pin.stamp es ≡ false
     → times t (stamps_of (with_entry new es)) ≡ times t (stamps_of es) + cond (new.pin.stamp == t) 1 0
 stamps_added t new [] falls absent = let count = times_cons t new.pin.stamp [] in omega (arith, count)
 stamps_added t new (e ∷ es) falls absent = go (cases_order new.pin.stamp e.pin.stamp) (stamps_added t new es (falls_tail e es falls) (not_after new.pin.stamp e es absent))
@@ -310,7 +310,7 @@ module _ (t now age : ℕ) where
   goes_unused : (e : PinEntry) → goes e ≡ true → e.users ≡ 0
   goes_unused e is = grind (arith, nat_tests)
 
-  users_left : (es : List PinEntry) → EntriesFall es → users_of t (filter (λ e. not (goes e)) es) ≡ users_of t es
+  users_left : (es : List PinEntry) → EntriesDescend es → users_of t (filter (λ e. not (goes e)) es) ≡ users_of t es
   users_left [] falls = refl
   users_left (e ∷ es) falls = go (goes e) refl (e.pin.stamp == t) refl (users_left es (falls_tail e es falls))
     where
@@ -321,7 +321,7 @@ module _ (t now age : ℕ) where
       go false is true here rest = rw (is, here) refl
       go false is false here rest = rw (is, here) rest
 
-  unused_if_gone : (es : List PinEntry) → EntriesFall es → 0 < times t (stamps_of (filter goes es)) → users_of t es ≡ 0
+  unused_if_gone : (es : List PinEntry) → EntriesDescend es → 0 < times t (stamps_of (filter goes es)) → users_of t es ≡ 0
   unused_if_gone [] falls some = refl
   unused_if_gone (e ∷ es) falls some = go (goes e) refl (e.pin.stamp == t) refl (unused_if_gone es (falls_tail e es falls))
     where

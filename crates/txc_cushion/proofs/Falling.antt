@@ -4,23 +4,23 @@ use Rattle.std.proofs.lemmas.Bool.{cases_order}
 use Rattle.std.proofs.lemmas.List.{get_or-take, get_or-map, get_or_default, length-take, length-map}
 use Rattle.std.proofs.lemmas.List.Kept.{AllPairs-filter}
 use Rattle.txc_cushion.specs.declared.entry.PinEntry.{PinEntry}
-use Rattle.txc_cushion.specs.Pinning.{Falls}
-use Rattle.txc_cushion.specs.Entries.{EntriesFall, pins_of}
+use Rattle.txc_cushion.specs.Pin.{PinsDescend}
+use Rattle.txc_cushion.specs.Entries.{EntriesDescend, pins_of}
 
 -- ---- the first of the list, and the others
 
-pub falls_head : (e : PinEntry) (es : List PinEntry) → EntriesFall (e ∷ es) → All (λ o. o.pin.stamp < e.pin.stamp) es
+pub falls_head : (e : PinEntry) (es : List PinEntry) → EntriesDescend (e ∷ es) → All (λ o. o.pin.stamp < e.pin.stamp) es
 falls_head e es falls = λ k d below. falls 0 (suc k) d (omega arith) (omega (arith, below))
 
-pub falls_tail : (e : PinEntry) (es : List PinEntry) → EntriesFall (e ∷ es) → EntriesFall es
+pub falls_tail : (e : PinEntry) (es : List PinEntry) → EntriesDescend (e ∷ es) → EntriesDescend es
 falls_tail e es falls = λ i j d less below. falls (suc i) (suc j) d (omega (arith, less)) (omega (arith, below))
 
 -- ---- parts of it
 
-pub falls_filter : (p : PinEntry → Bool) (es : List PinEntry) → EntriesFall es → EntriesFall (filter p es)
+pub falls_filter : (p : PinEntry → Bool) (es : List PinEntry) → EntriesDescend es → EntriesDescend (filter p es)
 falls_filter p es falls = AllPairs-filter (λ (newer older : PinEntry). older.pin.stamp < newer.pin.stamp) p es falls
 
-pub falls_take : (n : ℕ) (es : List PinEntry) → EntriesFall es → EntriesFall (take n es)
+pub falls_take : (n : ℕ) (es : List PinEntry) → EntriesDescend es → EntriesDescend (take n es)
 falls_take n es falls = λ i j d less below.
     let short = length-take n es in
     let i_within : i < n = omega (arith, short, below, less) in
@@ -28,7 +28,7 @@ falls_take n es falls = λ i j d less below.
     rw (get_or-take n es i d i_within, get_or-take n es j d j_within) (falls i j d less (omega (arith, short, below)))
 
 -- the pins alone
-pub falls_pins : (es : List PinEntry) → EntriesFall es → Falls (pins_of es)
+pub falls_pins : (es : List PinEntry) → EntriesDescend es → PinsDescend (pins_of es)
 falls_pins es falls = λ i j d less below.
     let long : length (pins_of es) ≡ length es = length-map es (λ (e : PinEntry). e.pin) in
     let d' : PinEntry = record { pin = d; users = 0 } in
@@ -37,7 +37,7 @@ falls_pins es falls = λ i j d less below.
     rw (at_i, at_j) (falls i j d' less (omega (arith, long, below)))
 
 -- what is done to each entry alone, and leaves its pin
-pub falls_map : (f : PinEntry → PinEntry) → ((e : PinEntry) → (f e).pin ≡ e.pin) → (es : List PinEntry) → EntriesFall es → EntriesFall (map f es)
+pub falls_map : (f : PinEntry → PinEntry) → ((e : PinEntry) → (f e).pin ≡ e.pin) → (es : List PinEntry) → EntriesDescend es → EntriesDescend (map f es)
 falls_map f same es falls = λ i j d less below.
     let long : length (map f es) ≡ length es = length-map es f in
     let at_i : get_or (map f es) i d ≡ f (get_or es i d) = get_or-map f es i d d (omega (arith, long, below, less)) in
@@ -49,7 +49,7 @@ falls_map f same es falls = λ i j d less below.
 abbrev stamp_of : PinEntry → ℕ
 stamp_of e = e.pin.stamp
 
-pub one_of_each : (es : List PinEntry) (a b : PinEntry) → EntriesFall es → Contains es a → Contains es b → a.pin.stamp ≡ b.pin.stamp → a ≡ b
+pub one_of_each : (es : List PinEntry) (a b : PinEntry) → EntriesDescend es → Contains es a → Contains es b → a.pin.stamp ≡ b.pin.stamp → a ≡ b
 one_of_each es a b falls (i, i_below, i_at) (j, j_below, j_at) same = go (cases_order i j)
   where
     go : (i ≡ j) ⊎ ((i < j) ⊎ (j < i)) → a ≡ b

@@ -7,7 +7,7 @@ use Rattle.txc_db.specs.History.{History, moment_at, IsAllowed}
 use Rattle.txc_cushion.specs.declared.pin.Pin.{Pin}
 use Rattle.txc_cushion.specs.declared.entry.PinEntry.{PinEntry}
 use Rattle.txc_cushion.specs.declared.limits.TheConstants.{MAX_HANDED_OUT}
-use Rattle.txc_cushion.specs.Pinning.{Falls}
+use Rattle.txc_cushion.specs.Pin.{PinsDescend}
 use Rattle.txc_cushion.specs.Entries.{may_be_handed_out, is_among, with_user}
 use Rattle.txc_cushion.specs.Cushion.{CushionValue, IsCushion, handed_out}
 use Rattle.txc_cushion.proofs.Falling.{falls_filter, falls_take, falls_pins, falls_map}
@@ -35,7 +35,7 @@ module _ (c : CushionValue) (now staleness at_least : ℕ) (is : IsCushion c) wh
       All-map (λ (p : Pin). moment_at c.history p.stamp ≡ Some p.moment) (λ (e : PinEntry). e.pin) (take MAX_HANDED_OUT (filter test c.entries))
       (All-take (IsShown c.history) MAX_HANDED_OUT (filter test c.entries) (All-filter test (IsShown c.history) c.entries is.shown))
 
-  pub handed_falls : Falls (handed_out c now staleness at_least)
+  pub handed_falls : PinsDescend (handed_out c now staleness at_least)
   handed_falls = falls_pins (take MAX_HANDED_OUT (filter test c.entries)) (falls_take MAX_HANDED_OUT (filter test c.entries) (falls_filter test c.entries is.falls))
 
   pub handed_few : length (handed_out c now staleness at_least) ≤ MAX_HANDED_OUT

@@ -6,7 +6,7 @@ use Rattle.std.proofs.lemmas.List.Elements.{All-map, All-take, All-filter, All-w
 use Rattle.std.proofs.lemmas.List.Folds.{list_any_none}
 use Rattle.txc_cushion.specs.declared.pin.Pin.{Pin}
 use Rattle.txc_cushion.specs.declared.entry.PinEntry.{PinEntry}
-use Rattle.txc_cushion.specs.Entries.{EntriesFall, pins_of, is_among, with_user}
+use Rattle.txc_cushion.specs.Entries.{EntriesDescend, pins_of, is_among, with_user}
 use Rattle.txc_cushion.proofs.Falling.{falls_head, falls_tail}
 
 -- what stands at a place to which a loop over the elements has not come
@@ -36,7 +36,7 @@ module _ (p : PinEntry → Bool) where
       (All-weaker (λ (o : PinEntry). o.pin.stamp < s) (λ (o : PinEntry). (o.pin.stamp == s) ≡ false) other es below))))
 
   -- the entry at a place is handed out where it may be, and fewer than n before it were
-  pub handed_at : (n : ℕ) (es : List PinEntry) (k : ℕ) (d : PinEntry) → EntriesFall es → k < length es
+  pub handed_at : (n : ℕ) (es : List PinEntry) (k : ℕ) (d : PinEntry) → EntriesDescend es → k < length es
       → is_among (get_or es k d).pin.stamp (handed n es) ≡ nat_lt (length (filter p (take k es))) n && p (get_or es k d)
   handed_at n [] k d falls below = absurd (omega (arith, below))
   handed_at n (e ∷ es) zero d falls below = go (p e) refl n
@@ -100,7 +100,7 @@ module _ (p : PinEntry → Bool) where
       grind (arith, nat_tests, long, short)
 
   -- an entry to which the pass has not come is handed out where it may be, and there is room
-  pub handed_next : (n : ℕ) (es now : List PinEntry) (i : ℕ) (x : PinEntry) (pins : List Pin) → EntriesFall es → i < length es
+  pub handed_next : (n : ℕ) (es now : List PinEntry) (i : ℕ) (x : PinEntry) (pins : List Pin) → EntriesDescend es → i < length es
       → now ≡ map (with_user (handed n es)) (take i es) ++ drop i es → x ≡ get_or now i x → pins ≡ handed n (take i es)
       → is_among x.pin.stamp (handed n es) ≡ nat_lt (length pins) n && p x
   handed_next n es now i x pins falls within so_far is same =

@@ -5,7 +5,7 @@ use Rattle.std.proofs.lemmas.List.{drop_all, drop_more, get_or-drop, length-drop
 use Rattle.std.proofs.lemmas.List.Edits.{map_over_more}
 use Rattle.std.proofs.lemmas.List.Sums.{sum_by-cons}
 use Rattle.txc_cushion.specs.declared.entry.PinEntry.{PinEntry}
-use Rattle.txc_cushion.specs.Entries.{EntriesFall, stand_in_order, times, users_of, without_users}
+use Rattle.txc_cushion.specs.Entries.{EntriesDescend, stand_in_order, times, users_of, without_users}
 use Rattle.txc_cushion.specs.Refusals.{HaveUsers}
 use Rattle.txc_cushion.proofs.Falling.{falls_head, falls_tail}
 use Rattle.txc_cushion.proofs.HandingOut.{not_yet}
@@ -45,7 +45,7 @@ not_named x (e ∷ es) (s ∷ ss) below order =
     go false is next later = later (rw is at order)
 
 -- such stamps have as many users as they are named
-pub have_in_order : (es : List PinEntry) (ss : List ℕ) → EntriesFall es → stand_in_order es ss ≡ true → HaveUsers es ss
+pub have_in_order : (es : List PinEntry) (ss : List ℕ) → EntriesDescend es → stand_in_order es ss ≡ true → HaveUsers es ss
 have_in_order es [] falls order = λ x. omega arith
 have_in_order [] (s ∷ ss) falls order = absurd (cc)
 have_in_order (e ∷ es) (s ∷ ss) falls order =
@@ -94,7 +94,7 @@ found_all ss n within = go (n == length ss) refl
 -- ---- one stamp after the other
 
 -- the first entry's stamp is the first that is named: it has a user, is named once, and the others go on without it
-named_first : (e : PinEntry) (es : List PinEntry) (ss : List ℕ) → EntriesFall (e ∷ es) → stand_in_order (e ∷ es) (e.pin.stamp ∷ ss) ≡ true
+named_first : (e : PinEntry) (es : List PinEntry) (ss : List ℕ) → EntriesDescend (e ∷ es) → stand_in_order (e ∷ es) (e.pin.stamp ∷ ss) ≡ true
     → (0 < e.users) × (times e.pin.stamp (e.pin.stamp ∷ ss) ≡ 1) × (stand_in_order es ss ≡ true) × All (λ o. times o.pin.stamp (e.pin.stamp ∷ ss) ≡ times o.pin.stamp ss) es
 named_first e es ss falls order =
     let itself : (e.pin.stamp == e.pin.stamp) ≡ true = eq-eqb e.pin.stamp e.pin.stamp refl in
@@ -111,7 +111,7 @@ named_first e es ss falls order =
     )
 
 -- the first entry's stamp isn't the first that is named: it is not named, and the stamps stand among the others
-not_named_first : (e : PinEntry) (es : List PinEntry) (ss : List ℕ) → EntriesFall (e ∷ es) → stand_in_order (e ∷ es) ss ≡ true
+not_named_first : (e : PinEntry) (es : List PinEntry) (ss : List ℕ) → EntriesDescend (e ∷ es) → stand_in_order (e ∷ es) ss ≡ true
     → ((s : ℕ) (rest : List ℕ) → ss ≡ s ∷ rest → e.pin.stamp ≡ s → ⊥) → (times e.pin.stamp ss ≡ 0) × (stand_in_order es ss ≡ true)
 not_named_first e es [] falls order other = (refl, refl)
 not_named_first e es (s ∷ ss) falls order other =
@@ -121,7 +121,7 @@ not_named_first e es (s ∷ ss) falls order other =
 
 -- ---- a pass over the entries
 
-falls_drop : (n : ℕ) (es : List PinEntry) → EntriesFall es → EntriesFall (drop n es)
+falls_drop : (n : ℕ) (es : List PinEntry) → EntriesDescend es → EntriesDescend (drop n es)
 falls_drop n es falls = λ i j d less below.
     let long = length-drop n es in
     rw (get_or-drop n es i d, get_or-drop n es j d) (falls (n + i) (n + j) d (omega (arith, less)) (omega (arith, below, long)))
@@ -142,7 +142,7 @@ Passed es ss now i n = (now ≡ map (without_users ss) (take i es) ++ drop i es)
     × All (λ (e : PinEntry). times e.pin.stamp ss ≡ times e.pin.stamp (drop n ss)) (drop i es)
     × (n ≤ length ss)
 
-module _ (es now : List PinEntry) (ss : List ℕ) (i n : ℕ) (x : PinEntry) (falls : EntriesFall es) (within : i < length es) where
+module _ (es now : List PinEntry) (ss : List ℕ) (i n : ℕ) (x : PinEntry) (falls : EntriesDescend es) (within : i < length es) where
   here : now ≡ map (without_users ss) (take i es) ++ drop i es → x ≡ get_or now i x → drop i es ≡ x ∷ drop (i + 1) es
   here so_far is = drop_more es i x within ∙ ap (λ (y : PinEntry). y ∷ drop (i + 1) es) (sym (not_yet (without_users ss) es now i x within so_far is))
 
@@ -152,7 +152,7 @@ module _ (es now : List PinEntry) (ss : List ℕ) (i n : ℕ) (x : PinEntry) (fa
   passed_named (so_far, order, same, short) is less named =
       let at = here so_far is in
       let rest : drop n ss ≡ x.pin.stamp ∷ drop (n + 1) ss = drop_more ss n 0 less ∙ ap (λ (s : ℕ). s ∷ drop (n + 1) ss) (sym named) in
-      let falls' : EntriesFall (x ∷ drop (i + 1) es) = subst EntriesFall at (falls_drop i es falls) in
+      let falls' : EntriesDescend (x ∷ drop (i + 1) es) = subst EntriesDescend at (falls_drop i es falls) in
       let order' : stand_in_order (x ∷ drop (i + 1) es) (x.pin.stamp ∷ drop (n + 1) ss) ≡ true = rw (at, rest) at order in
       let same' : All (λ (e : PinEntry). times e.pin.stamp ss ≡ times e.pin.stamp (x.pin.stamp ∷ drop (n + 1) ss)) (x ∷ drop (i + 1) es) = rw (at, rest) at same in
       let first = named_first x (drop (i + 1) es) (drop (n + 1) ss) falls' order' in
@@ -171,7 +171,7 @@ module _ (es now : List PinEntry) (ss : List ℕ) (i n : ℕ) (x : PinEntry) (fa
   pub passed_other : Passed es ss now i n → x ≡ get_or now i x → (n < length ss → x.pin.stamp ≡ get_or ss n 0 → ⊥) → Passed es ss now (i + 1) n
   passed_other (so_far, order, same, short) is other =
       let at = here so_far is in
-      let falls' : EntriesFall (x ∷ drop (i + 1) es) = subst EntriesFall at (falls_drop i es falls) in
+      let falls' : EntriesDescend (x ∷ drop (i + 1) es) = subst EntriesDescend at (falls_drop i es falls) in
       let order' : stand_in_order (x ∷ drop (i + 1) es) (drop n ss) ≡ true = rw at at order in
       let same' : All (λ (e : PinEntry). times e.pin.stamp ss ≡ times e.pin.stamp (drop n ss)) (x ∷ drop (i + 1) es) = rw at at same in
       let not = not_named_first x (drop (i + 1) es) (drop n ss) falls' order' (λ s rest eq same_stamp. let first = first_left ss n s rest eq in other first.0 (same_stamp ∙ sym first.1)) in

@@ -5,14 +5,14 @@ use Rattle.std.proofs.lemmas.List.Elements.{Contains-get_or, All-filter}
 use Rattle.std.proofs.lemmas.List.Sums.{count_by_more_yes, count_by_more_no, length-filter, count_by-le-length}
 use Rattle.txc_db.specs.History.{moment_at}
 use Rattle.txc_cushion.specs.declared.entry.PinEntry.{PinEntry}
-use Rattle.txc_cushion.specs.Entries.{EntriesFall, users_of, times, is_retirable}
+use Rattle.txc_cushion.specs.Entries.{EntriesDescend, users_of, times, is_retirable}
 use Rattle.txc_cushion.specs.Refusals.{HaveUsers}
 use Rattle.txc_cushion.specs.Cushion.{CushionValue, IsCushion, after_retire}
 use Rattle.txc_cushion.proofs.Falling.{falls_head, falls_tail, falls_filter}
 
 -- ---- users of an entry
 
-pub users_of_entry : (es : List PinEntry) (e : PinEntry) → EntriesFall es → Contains es e → users_of e.pin.stamp es ≡ e.users
+pub users_of_entry : (es : List PinEntry) (e : PinEntry) → EntriesDescend es → Contains es e → users_of e.pin.stamp es ≡ e.users
 users_of_entry [] e falls (k, below, at) = absurd (omega (arith, below))
 users_of_entry (x ∷ xs) e falls (zero, below, at) =
     let same : x ≡ e = at in
@@ -24,7 +24,7 @@ users_of_entry (x ∷ xs) e falls (suc k, below, at) =
     let off : (x.pin.stamp == e.pin.stamp) ≡ false = ne_eqb x.pin.stamp e.pin.stamp (λ same. omega (arith, lower, same)) in
     rw off (users_of_entry xs e (falls_tail x xs falls) (k, omega (arith, below), at))
 
-pub each_has_users : (es : List PinEntry) (stamps : List ℕ) → EntriesFall es → HaveUsers es stamps → All (λ e. times e.pin.stamp stamps ≤ e.users) es
+pub each_has_users : (es : List PinEntry) (stamps : List ℕ) → EntriesDescend es → HaveUsers es stamps → All (λ e. times e.pin.stamp stamps ≤ e.users) es
 each_has_users es stamps falls have = λ k d below.
     let enough = have (get_or es k d).pin.stamp in
     let here = users_of_entry es (get_or es k d) falls (Contains-get_or es k d below) in

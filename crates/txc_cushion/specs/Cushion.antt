@@ -3,12 +3,12 @@ use Rattle.std.specs.Prelude.{◌≡◌, ℕ, ◌≤◌, nat_lt, not, List, [], 
 use Rattle.txc_stream.specs.Names.{Name}
 use Rattle.txc_db.specs.declared.pinned.Pinned.{Pinned}
 use Rattle.txc_db.specs.History.{History, moment_at}
-use Rattle.txc_db.specs.Seen.{FrontValue}
+use Rattle.txc_db.specs.FrontsAndFeeds.{FrontValue}
 use Rattle.txc_cushion.specs.declared.pin.Pin.{Pin}
 use Rattle.txc_cushion.specs.declared.entry.PinEntry.{PinEntry}
 use Rattle.txc_cushion.specs.declared.limits.TheConstants.{MAX_HANDED_OUT, MAX_PINS}
-use Rattle.txc_cushion.specs.Pinning.{pin_of}
-use Rattle.txc_cushion.specs.Entries.{pins_of, stamps_of, EntriesFall, may_be_handed_out, with_user, without_users, with_entry, is_retirable}
+use Rattle.txc_cushion.specs.Pin.{pin_of}
+use Rattle.txc_cushion.specs.Entries.{pins_of, stamps_of, EntriesDescend, may_be_handed_out, with_user, without_users, with_entry, is_retirable}
 
 -- the identity of its database's history; the part of the history that its front shows; and the pins, the
 -- newest first, each with its users
@@ -20,7 +20,7 @@ pub record CushionValue : Type 0 where
 -- invariant of a pincushion: its pins descend from the newest, its history shows each, and there are no more
 -- than allowed
 pub record IsCushion (c : CushionValue) : Type 0 where
-  pub falls : EntriesFall c.entries
+  pub falls : EntriesDescend c.entries
   pub shown : All (λ e. moment_at c.history e.pin.stamp ≡ Some e.pin.moment) c.entries
   pub few : length c.entries ≤ MAX_PINS
 

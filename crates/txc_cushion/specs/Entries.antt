@@ -4,7 +4,7 @@ use Rattle.std.specs.List.{list_any}
 use Rattle.txc_cushion.specs.declared.pin.Pin.{Pin}
 use Rattle.txc_cushion.specs.declared.entry.PinEntry.{PinEntry}
 use Rattle.txc_cushion.specs.declared.limits.TheConstants.{MAX_USERS}
-use Rattle.txc_cushion.specs.Pinning.{is_older}
+use Rattle.txc_cushion.specs.Pin.{is_older}
 
 -- the pins without their users
 abbrev pub pins_of : List PinEntry → List Pin
@@ -15,8 +15,8 @@ abbrev pub stamps_of : List PinEntry → List ℕ
 stamps_of entries = map (λ e. e.pin.stamp) entries
 
 -- the newest first: each stamp exceeds those after it
-abbrev pub EntriesFall : List PinEntry → Type 0
-EntriesFall entries = AllPairs (λ newer older. older.pin.stamp < newer.pin.stamp) entries
+abbrev pub EntriesDescend : List PinEntry → Type 0
+EntriesDescend entries = AllPairs (λ newer older. older.pin.stamp < newer.pin.stamp) entries
 
 -- there is a pin of this stamp
 abbrev pub is_pinned : ℕ → List PinEntry → Bool

@@ -1,7 +1,7 @@
-pub mod Pinning
-pub mod Entries
-pub mod Cushion
-pub mod Refusals
-pub mod Laws
-pub mod Shared
 pub mod Codes
+pub mod Cushion
+pub mod Entries
+pub mod Laws
+pub mod Pin
+pub mod Pincushion
+pub mod Refusals

@@ -1,6 +1,6 @@
 //! Issuing pins.
 ghost use Rattle.std.specs.Prelude.{◌≡◌, ◌+◌, ◌≤◌, ◌++◌, ◌∷◌, [], map, filter, take, nat_lt, ◌&&◌, if◌then◌else◌, length, IfOk, OnOk, OnErr, vec_capacity};
-ghost use Rattle.txc_cushion.specs.Entries.{EntriesFall, pins_of, may_be_handed_out, with_user};
+ghost use Rattle.txc_cushion.specs.Entries.{EntriesDescend, pins_of, may_be_handed_out, with_user};
 ghost use Rattle.txc_cushion.specs.declared.limits.TheConstants.{MAX_HANDED_OUT};
 
 use crate::entry::PinEntry;
@@ -40,7 +40,7 @@ fn hand_out_each(
     staleness: u64,
     at_least: Stamp,
 )
-    requires falls { EntriesFall entries.old }
+    requires falls { EntriesDescend entries.old }
     requires none { pins.old.items ≡ [] }
     requires room { MAX_HANDED_OUT ≤ vec_capacity pins.old }
     ensures pins { pins.new.items
@@ -62,7 +62,7 @@ pub(crate) fn hand_out(
     staleness: u64,
     at_least: Stamp,
 ) -> Result<Vec<Pin>, AllocError>
-    requires { EntriesFall entries.old.items }
+    requires { EntriesDescend entries.old.items }
     ensures pins { IfOk result (λ pins. pins.items ≡ pins_of (take MAX_HANDED_OUT
         (filter (may_be_handed_out now staleness at_least) entries.old.items))) }
     ensures users { OnOk result (entries.new.items ≡ map (with_user (pins_of (take MAX_HANDED_OUT

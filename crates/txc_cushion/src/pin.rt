@@ -1,5 +1,5 @@
 ghost use Rattle.std.specs.Prelude.{◌≡◌};
-ghost use Rattle.txc_cushion.specs.Pinning.{pin_of};
+ghost use Rattle.txc_cushion.specs.Pin.{pin_of};
 
 use txc_db::Pinned;
 use txc_stamp::Stamp;
@@ -22,7 +22,7 @@ pub fn pin_of(pinned: &Pinned) -> Pin
 }
 
 impl Pin {
-    ghost use Rattle.txc_cushion.specs.Pinning.{is_older};
+    ghost use Rattle.txc_cushion.specs.Pin.{is_older};
 
     /// Returns `true` if its time is more than `age` before `now`, all in milliseconds. The sum may exceed 64
     /// bits.

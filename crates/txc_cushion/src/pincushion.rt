@@ -3,7 +3,7 @@ ghost use Rattle.std.specs.Prelude.{◌≡◌, All, IfOk, IfErr};
 ghost use Rattle.txc_db.specs.History.{IsAllowed};
 ghost use Rattle.txc_cushion.specs.Cushion.{cushion_front, handed_out, retired};
 ghost use Rattle.txc_cushion.specs.Refusals.{IsAddRefused, IsFirstUnused};
-ghost use Rattle.txc_cushion.specs.Shared.{CushionMayAnswer};
+ghost use Rattle.txc_cushion.specs.Pincushion.{CushionMayAnswer};
 
 use crate::cushion_core::CushionCore;
 use crate::error::{AddError, UnknownPin};
@@ -11,7 +11,7 @@ use crate::locked::Locked;
 use crate::pins::Pins;
 use std::alloc::{AllocError, Global};
 use std::sync::{Mutex, Wait};
-use txc_db::{Database, Naming, Pinned, lock_soon};
+use txc_db::{Database, Naming, Pinned, lock_spinning};
 use txc_stamp::Stamp;
 
 /// A pincushion that threads share.
@@ -61,7 +61,7 @@ impl<J: Naming> Pincushion<J> {
         ensures answer { IfOk result (CushionMayAnswer J.database_history (λ c given.
             (given.pins.items ≡ handed_out c now staleness at_least) × (given.front ≡ cushion_front c))) }
     {
-        lock_soon(rt, &self.lock).fresh(alloc, now, staleness, at_least)
+        lock_spinning(rt, &self.lock).fresh(alloc, now, staleness, at_least)
     }
 
     /// Adds a pin, with one user. Fails if there are [`crate::MAX_PINS`] pins, if the stamp is pinned already,
@@ -71,7 +71,7 @@ impl<J: Naming> Pincushion<J> {
         ensures refused { IfErr result (CushionMayAnswer J.database_history (λ c.
             IsAddRefused c pinned.now.stamp)) }
     {
-        lock_soon(rt, &self.lock).add(pinned)
+        lock_spinning(rt, &self.lock).add(pinned)
     }
 
     /// Removes one user for each stamp in the list. Fails, and changes nothing, if a stamp has no user left.
@@ -80,7 +80,7 @@ impl<J: Naming> Pincushion<J> {
         ensures refused { IfErr result (CushionMayAnswer J.database_history (λ c unknown.
             IsFirstUnused c.entries stamps.now unknown.stamp)) }
     {
-        lock_soon(rt, &self.lock).give_back(stamps)
+        lock_spinning(rt, &self.lock).give_back(stamps)
     }
 
     /// Removes the pins without users whose time is more than `age` before `now`, all in milliseconds. Returns
@@ -95,6 +95,6 @@ impl<J: Naming> Pincushion<J> {
         ensures answer { IfOk result (CushionMayAnswer J.database_history (λ c stamps.
             stamps.items ≡ retired c now age)) }
     {
-        lock_soon(rt, &self.lock).retire(alloc, now, age)
+        lock_spinning(rt, &self.lock).retire(alloc, now, age)
     }
 }

@@ -1,6 +1,6 @@
 //! Places of stamps among the pins in a list.
 ghost use Rattle.std.specs.Prelude.{◌≡◌, ◌≤◌, nat_lt, false, length, filter, OnOk, OnErr};
-ghost use Rattle.txc_cushion.specs.Entries.{EntriesFall, is_pinned, with_entry};
+ghost use Rattle.txc_cushion.specs.Entries.{EntriesDescend, is_pinned, with_entry};
 
 use crate::entry::PinEntry;
 use crate::pin::Pin;
@@ -28,7 +28,7 @@ fn count_newer(entries: &[PinEntry], stamp: Stamp) -> usize
 /// Inserts a pin with one user after those with greater stamps. Fails, and changes nothing, only if memory
 /// cannot be allocated.
 pub(crate) fn put(entries: &mut Vec<PinEntry>, pin: Pin) -> Result<(), AllocError>
-    requires falls { EntriesFall entries.old.items }
+    requires falls { EntriesDescend entries.old.items }
     requires absent { is_pinned pin.stamp entries.old.items ≡ false }
     ensures after { OnOk result (entries.new.items
         ≡ with_entry (record { pin = pin; users = 1 }) entries.old.items) }

@@ -1,6 +1,6 @@
 //! Users of returned pins.
 ghost use Rattle.std.specs.Prelude.{◌≡◌, ◌+◌, ◌-◌, ◌<◌, ◌≤◌, ◌==◌, ◌&&◌, nat_lt, if◌then◌else◌, All, map, length, slice_index_or, true, OnErr, OnOk, IfErr};
-ghost use Rattle.txc_cushion.specs.Entries.{stand_in_order, users_of, times, without_users, EntriesFall};
+ghost use Rattle.txc_cushion.specs.Entries.{stand_in_order, users_of, times, without_users, EntriesDescend};
 ghost use Rattle.txc_cushion.specs.Refusals.{HaveUsers, IsFirstUnused};
 
 use crate::entry::PinEntry;
@@ -96,7 +96,7 @@ fn take_found(entry: &mut PinEntry, stamps: &[Stamp], found: usize) -> usize
 
 // Removes one user for each of the stamps in one pass; the stamps are in the order of the entries.
 fn take_users_in_order(entries: &mut [PinEntry], stamps: &[Stamp])
-    requires falls { EntriesFall entries.old }
+    requires falls { EntriesDescend entries.old }
     requires order { stand_in_order entries.old stamps.now ≡ true }
     ensures { entries.new ≡ map (without_users stamps.now) entries.old }
 {
@@ -109,7 +109,7 @@ fn take_users_in_order(entries: &mut [PinEntry], stamps: &[Stamp])
 /// Removes one user for each stamp in the list, in one pass if the stamps are in the order in which they were
 /// issued. Fails, and changes nothing, if a stamp has no user left.
 pub(crate) fn give_back(entries: &mut Vec<PinEntry>, stamps: &[Stamp]) -> Result<(), UnknownPin>
-    requires { EntriesFall entries.old.items }
+    requires { EntriesDescend entries.old.items }
     ensures after { OnOk result (entries.new.items ≡ map (without_users stamps.now) entries.old.items) }
     ensures only_if { OnOk result (HaveUsers entries.old.items stamps.now) }
     ensures unchanged { OnErr result (entries.new.items ≡ entries.old.items) }

@@ -5,8 +5,8 @@ use Rattle.txc_rows.specs.States.{State, IsState}
 use Rattle.txc_rows.specs.RowTags.{tags_between}
 use Rattle.txc_rows.specs.declared.version.Versioned.{Versioned}
 use Rattle.txc_rows.specs.Versions.{purged, counted_from}
-use Rattle.txc_rows.specs.Keeping.{KeepsStates, KeepsBegun}
-use Rattle.txc_rows.specs.Laws.{PutsMakeState, NetLeads}
+use Rattle.txc_rows.specs.KeptStates.{KeepsStates, KeepsBegun}
+use Rattle.txc_rows.specs.Laws.{PutsMakeState, NetTransition}
 use Rattle.txc_stream.specs.Names.{Name}
 use Rattle.txc_db.specs.Facts.{EventValue}
 use Rattle.txc_db.specs.History.{History, AreTagged, state_after_event, state_at, state_event}
@@ -17,12 +17,12 @@ use Rattle.txc_db.proofs.Sound.{tagged_empty}
 pub tagged_one : (e : EventValue) → e.tags ≡ tags_between [] (state_after_event [] e) → AreTagged (e ∷ [])
 tagged_one e beside = tagged_pushed [] e tagged_empty beside
 
-module _ (puts : PutsMakeState) (leads : NetLeads) where
+module _ (puts : PutsMakeState) (transition : NetTransition) where
   pub state_begun : (s : State) → IsState s → state_at (state_event s ∷ []) 1 ≡ s
-  state_begun s is = (leads [] (map Put s) tt).leads ∙ puts s is
+  state_begun s is = (transition [] (map Put s) tt).transition ∙ puts s is
 
   pub beside_begun : (s : State) → (state_event s).tags ≡ tags_between [] (state_after_event [] (state_event s))
-  beside_begun s = ap (tags_between []) (sym (leads [] (map Put s) tt).leads)
+  beside_begun s = ap (tags_between []) (sym (transition [] (map Put s) tt).transition)
 
   module _ (d new : DatabaseValue) (begins : new.history ≡ state_event (newest_state d) ∷ []) (same : new.most ≡ d.most) (sound : IsSound d) where
     is_newest : IsState (newest_state d)

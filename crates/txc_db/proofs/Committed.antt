@@ -12,12 +12,12 @@ use Rattle.txc_rows.specs.Net.{net_changes}
 use Rattle.txc_db.specs.declared.answered.Answered.{Answered}
 use Rattle.txc_db.specs.declared.answered.CommitError.{CommitError}
 use Rattle.txc_db.specs.Facts.{EventValue}
-use Rattle.txc_db.specs.Seen.{FrontValue}
+use Rattle.txc_db.specs.FrontsAndFeeds.{FrontValue}
 use Rattle.txc_db.specs.History.{History, state_at, event_at, commit_event}
 use Rattle.txc_db.specs.DatabaseValue.{DatabaseValue, newest, newest_state, newest_net, front_of, where_some, after_event_of, after_commit}
 use Rattle.txc_db.specs.Refusals.{NoneMatches}
 use Rattle.txc_db.specs.Calls.{IsCommittable}
-use Rattle.txc_db.specs.Shared.{IsQuietIn, IsEventIn}
+use Rattle.txc_db.specs.DatabaseReply.{IsQuietIn, IsEventIn}
 use Rattle.txc_db.proofs.Histories.{state_before, tags_stay}
 
 -- ---- with a net change or none

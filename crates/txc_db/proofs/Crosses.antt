@@ -8,8 +8,8 @@ use Rattle.std.proofs.option.Option.TheSendSync as option
 use Rattle.std.proofs.sync.Mutex.TheSendSync as mutex
 use Rattle.txc_stream.proofs.row.EventRow.TheSendSync as row
 use Rattle.txc_stream.proofs.row.Front.TheSendSync as front
-use Rattle.txc_stream.proofs.walker.Walker.TheSendSync as walker
-use Rattle.txc_stream.proofs.poster.Poster.TheSendSync as poster
+use Rattle.txc_stream.proofs.cursor.Cursor.TheSendSync as walker
+use Rattle.txc_stream.proofs.publisher.Publisher.TheSendSync as poster
 use Rattle.txc_stream.specs.contracts.row.EventRow as EventRow
 use Rattle.txc_tags.specs.contracts.set.TagSet as TagSet
 use Rattle.txc_tags.proofs.set.TagSet.TheSendSync as tag_set

@@ -1,7 +1,7 @@
 -- Stamps that are held.
 use Rattle.std.proofs.Common.{◌≡◌, ◌≢◌, ℕ, ◌+◌, ◌≤◌, ◌<◌, ◌==◌, Bool, true, false, List, [], ◌∷◌, ◌++◌, ◌||◌, length, cond, refl, arith, eqb-true, eq-eqb, ne_eqb, add_comm, get_or, remove, ap, zero, suc, slice_get, Some}
 use Rattle.std.specs.List.{AllByRecursion}
-use Rattle.txc_db.specs.DatabaseValue.{DatabaseValue, newest, IsSound, IsReadable, Rises, least, without, is_held, holds_of}
+use Rattle.txc_db.specs.DatabaseValue.{DatabaseValue, newest, IsSound, IsReadable, StampsAscend, least, without, is_held, holds_of}
 use Rattle.txc_db.specs.Laws.{OneHoldLess}
 
 -- ---- one hold more
@@ -10,7 +10,7 @@ pub all_push : (P : ℕ → Type 0) (xs : List ℕ) (x : ℕ) → AllByRecursion
 all_push P [] x h p = (p, tt)
 all_push P (y ∷ ys) x h p = (h.0, all_push P ys x h.1 p)
 
-pub rises_push : (horizon newest : ℕ) (xs : List ℕ) → AllByRecursion (IsReadable horizon newest) xs → Rises xs → Rises (xs ++ newest ∷ [])
+pub rises_push : (horizon newest : ℕ) (xs : List ℕ) → AllByRecursion (IsReadable horizon newest) xs → StampsAscend xs → StampsAscend (xs ++ newest ∷ [])
 rises_push horizon newest [] held rises = (tt, tt)
 rises_push horizon newest (x ∷ xs) held rises = (all_push (λ t. x ≤ t) xs newest rises.0 held.0.high, rises_push horizon newest xs held.1 rises.1)
 
@@ -33,11 +33,11 @@ all_without P stamp (x ∷ xs) h = go (x == stamp) (all_without P stamp xs h.1)
     go true rest = h.1
     go false rest = (h.0, rest)
 
-rises_without : (stamp : ℕ) (xs : List ℕ) → Rises xs → Rises (without stamp xs)
+rises_without : (stamp : ℕ) (xs : List ℕ) → StampsAscend xs → StampsAscend (without stamp xs)
 rises_without stamp [] h = tt
 rises_without stamp (x ∷ xs) h = go (x == stamp) (rises_without stamp xs h.1)
   where
-    go : (b : Bool) → Rises (without stamp xs) → Rises (cond b xs (x ∷ without stamp xs))
+    go : (b : Bool) → StampsAscend (without stamp xs) → StampsAscend (cond b xs (x ∷ without stamp xs))
     go true rest = h.1
     go false rest = (all_without (λ t. x ≤ t) stamp xs h.0, rest)
 
@@ -57,7 +57,7 @@ least_of_all newest s [] low h = low
 least_of_all newest s (t ∷ ss) low h = let rest = least_of_all newest s ss low h.1 in omega (arith, h.0, rest)
 
 -- of holds that rise it is the first
-pub least_first : (newest : ℕ) (xs : List ℕ) (x : ℕ) → Rises xs → AllByRecursion (λ s. s ≤ newest) xs → slice_get xs 0 ≡ Some x → x ≡ least newest xs
+pub least_first : (newest : ℕ) (xs : List ℕ) (x : ℕ) → StampsAscend xs → AllByRecursion (λ s. s ≤ newest) xs → slice_get xs 0 ≡ Some x → x ≡ least newest xs
 least_first newest [] x rises high at = absurd (let f = at in cc)
 least_first newest (y ∷ ys) x rises high at =
     let same : y ≡ x = cc at in

@@ -7,13 +7,13 @@ use Rattle.txc_rows.specs.declared.query.Change.{Change}
 use Rattle.txc_rows.specs.declared.query.Query.TheVariants.{ById}
 use Rattle.txc_rows.specs.States.{RowValue, State, IsState, row_before, is_at, answer, after_changes}
 use Rattle.txc_rows.specs.RowTags.{tags_of_row, tags_between}
-use Rattle.txc_rows.specs.Net.{change_table, change_id, same_key, key_before, changes_state, placed, settled, net_changes, KeysRise, puts_of, rows_at}
-use Rattle.txc_rows.specs.Laws.{NetTags, NetLeads}
+use Rattle.txc_rows.specs.Net.{change_table, change_id, same_key, key_before, changes_state, placed, settled, net_changes, KeysAscend, puts_of, rows_at}
+use Rattle.txc_rows.specs.Laws.{NetTags, NetTransition}
 use Rattle.txc_rows.proofs.Offered.{IsIn, is_in, any_there, any_found, both_true, in_filter, from_filter, in_left, in_right}
 use Rattle.txc_rows.proofs.Offered.{same_rows, filter_state}
 use Rattle.txc_db.specs.DatabaseValue.{DatabaseValue}
 use Rattle.txc_db.specs.Calls.{matching_of, row_query, AreFewNamed}
-use Rattle.txc_db.specs.NetWith.{found_rows, IsNetWith}
+use Rattle.txc_db.specs.NetGrowth.{found_rows, IsNetWith}
 use Rattle.txc_db.proofs.Settling.{tags_then, flat_then}
 
 -- ---- lists
@@ -78,7 +78,7 @@ keyed c d x y before atx aty =
     let iy : y.id ≡ change_id d = eqb-true _ _ ky.1 in
     rw (tx, ix, ty, iy) before
 
-found_state : (net : List Change) (s : State) → KeysRise net → IsState s → IsState (found_rows s net)
+found_state : (net : List Change) (s : State) → KeysAscend net → IsState s → IsState (found_rows s net)
 found_state [] s rise h = tt
 found_state (c ∷ cs) s rise h =
     append_state (answer (ById (change_table c) (change_id c)) s) (found_rows s cs) (filter_state (is_at (change_table c) (change_id c)) s h) (found_state cs s rise.1 h)
@@ -86,7 +86,7 @@ found_state (c ∷ cs) s rise h =
     let it = found_from cs s y hy in
     keyed c it.change x y (all_in (λ (d : Change). key_before c d ≡ true) it.change cs rise.0 it.one) (from_filter (is_at (change_table c) (change_id c)) x s hx).1 it.at)
 
-pub found_are_rows_at : (net : List Change) (s : State) → KeysRise net → IsState s → found_rows s net ≡ rows_at net s
+pub found_are_rows_at : (net : List Change) (s : State) → KeysAscend net → IsState s → found_rows s net ≡ rows_at net s
 found_are_rows_at net s rise h = same_rows (found_rows s net) (rows_at net s) (found_state net s rise h) (filter_state (λ r. list_any (λ c. is_at (change_table c) (change_id c) r) net) s h) to from
   where
     to : (z : RowValue) → IsIn z (found_rows s net) → IsIn z (rows_at net s)
@@ -101,11 +101,11 @@ found_are_rows_at net s rise h = same_rows (found_rows s net) (rows_at net s) (f
         found_to net s z by.0 by.1 it.0 by.2
 
 -- the tags of the rows found, and then those of the rows put, are the tags of the commit
-pub commit_tags : NetTags → NetLeads → (s : State) (changes : List Change) (tags : List Tag) → IsState s
+pub commit_tags : NetTags → NetTransition → (s : State) (changes : List Change) (tags : List Tag) → IsState s
     → tags ≡ with_tags (flat_map tags_of_row (puts_of (net_changes s changes))) (with_tags (flat_map tags_of_row (found_rows s (net_changes s changes))) [])
     → tags ≡ tags_between s (after_changes changes s)
-commit_tags law leads s changes tags h is =
-    let net = leads s changes h in
+commit_tags law transition s changes tags h is =
+    let net = transition s changes h in
     let found = found_are_rows_at (net_changes s changes) s net.rising h in
     is ∙ (sym (tags_then (flat_map tags_of_row (found_rows s (net_changes s changes))) (flat_map tags_of_row (puts_of (net_changes s changes))) [])
     ∙ (ap (λ (ts : List Tag). with_tags ts []) (sym (flat_then tags_of_row (found_rows s (net_changes s changes)) (puts_of (net_changes s changes))))

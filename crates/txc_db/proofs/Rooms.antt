@@ -2,7 +2,7 @@
 use Rattle.std.proofs.Common.{◌≡◌, ℕ, ◌<◌, ◌≤◌, List, length, refl, subst, sym, ap, arith}
 use Rattle.txc_stamp.specs.declared.stamp.TheConstants.{LAST_STAMP, MOST_STAMP}
 use Rattle.txc_stream.specs.Names.{Name, stored, unstored, HasRow}
-use Rattle.txc_stream.specs.Shown.{HasCells}
+use Rattle.txc_stream.specs.FrontValue.{HasCells}
 use Rattle.txc_db.specs.Room.{events_room, AreTagsKept, AreTagsGone}
 
 -- no history has more events than there are stamps

@@ -8,11 +8,11 @@ use Rattle.txc_validity.specs.Answers.{IsAnswer}
 use Rattle.txc_stream.specs.Names.{Name}
 use Rattle.txc_db.specs.declared.answered.Answered.{Answered}
 use Rattle.txc_db.specs.declared.error.DbError.{DbError}
-use Rattle.txc_db.specs.Seen.{FrontValue}
+use Rattle.txc_db.specs.FrontsAndFeeds.{FrontValue}
 use Rattle.txc_db.specs.History.{state_at}
 use Rattle.txc_db.specs.DatabaseValue.{DatabaseValue, newest, front_of}
 use Rattle.txc_db.specs.Calls.{IsAnswerable, matching_of}
-use Rattle.txc_db.specs.Shared.{IsDatabaseOf, MayAnswer, IsQueryAnswer, MayRefuse}
+use Rattle.txc_db.specs.DatabaseReply.{IsDatabaseOf, MayAnswer, IsQueryAnswer, MayRefuse}
 
 -- the database under the lock is the one that refuses
 pub may_refuse : {T E : Type 0} (d : DatabaseValue) (events : Name) (refused : DatabaseValue → E → Type 0) (r : Result T E) → IsDatabaseOf events d → IfErr r (refused d) → IfErr r (MayRefuse events refused)

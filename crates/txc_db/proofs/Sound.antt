@@ -6,9 +6,9 @@ use Rattle.txc_rows.specs.declared.query.Change.{Change}
 use Rattle.txc_rows.specs.declared.version.Versioned.{Versioned}
 use Rattle.txc_rows.specs.Net.{IsNet}
 use Rattle.txc_rows.specs.RowTags.{tags_between}
-use Rattle.txc_rows.specs.Keeping.{KeepsStates, KeepsWritten, KeepsPurged, Leads}
+use Rattle.txc_rows.specs.KeptStates.{KeepsStates, KeepsWritten, KeepsPurged, StateTransition}
 use Rattle.txc_rows.specs.Laws.{NoTagsBetween}
-use Rattle.txc_rows.specs.Uses.{KeepsAgreed, KeepsQuiet}
+use Rattle.txc_rows.specs.StoreHistory.{KeepsAgreed, KeepsQuiet}
 use Rattle.txc_stream.specs.Names.{Name}
 use Rattle.txc_db.specs.Facts.{Fact, EventValue, commit}
 use Rattle.txc_db.specs.History.{state_at, AreTagged, pin_event, after_fact}
@@ -56,20 +56,20 @@ pin_sound agreed quiet none d moment stamp is s = record {
 
 -- ---- a commit
 
-commit_leads : (d : DatabaseValue) (net : List Change) (e : EventValue) → e.fact ≡ commit net → IsNet (newest_state d) net (after_changes net (newest_state d)) → Leads (state_at (d.history ++ e ∷ [])) (newest d) (suc (newest d)) net
-commit_leads d net e is leads = record {
+commit_leads : (d : DatabaseValue) (net : List Change) (e : EventValue) → e.fact ≡ commit net → IsNet (newest_state d) net (after_changes net (newest_state d)) → StateTransition (state_at (d.history ++ e ∷ [])) (newest d) (suc (newest d)) net
+commit_leads d net e is transition = record {
   later = omega arith;
   quiet = λ t low high. let same : t ≡ newest d = omega (arith, low, high) in ap (state_at (d.history ++ e ∷ [])) same;
-  changes = rw (state_before d.history e, state_pushed d.history e, is) leads;
+  changes = rw (state_before d.history e, state_pushed d.history e, is) transition;
 }
 
 pub commit_sound : KeepsAgreed → (d : DatabaseValue) (net : List Change) (e : EventValue) (vs : List Versioned) → e.fact ≡ commit net
     → IsNet (newest_state d) net (after_changes net (newest_state d)) → e.tags ≡ tags_between (newest_state d) (after_changes net (newest_state d))
     → KeepsWritten net (suc (newest d)) d.versions vs → IsSound d
     → IsSound (record d { history = d.history ++ e ∷ []; versions = vs })
-commit_sound agreed d net e vs is leads tags written s = record {
+commit_sound agreed d net e vs is transition tags written s = record {
   tagged = tagged_pushed d.history e s.tagged (tags ∙ ap (λ (f : Fact). tags_between (newest_state d) (after_fact f (newest_state d))) (sym is));
-  kept = subst (λ (n : ℕ). KeepsStates (state_at (d.history ++ e ∷ [])) d.horizon n vs) (sym (len ∙ add-one (newest d))) (written (state_at (d.history ++ e ∷ [])) d.horizon (newest d) (kept_on agreed d e s) (commit_leads d net e is leads));
+  kept = subst (λ (n : ℕ). KeepsStates (state_at (d.history ++ e ∷ [])) d.horizon n vs) (sym (len ∙ add-one (newest d))) (written (state_at (d.history ++ e ∷ [])) d.horizon (newest d) (kept_on agreed d e s) (commit_leads d net e is transition));
   limit = s.limit;
   held = rw len (readable_later d.horizon (newest d) d.holds s.held);
   rising = s.rising;

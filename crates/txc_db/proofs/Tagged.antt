@@ -8,7 +8,7 @@ use Rattle.txc_stream.specs.Names.{Name}
 use Rattle.txc_db.specs.Refusals.{NoneMatches}
 use Rattle.txc_tags.specs.declared.tag.Tag.{Tag}
 use Rattle.txc_db.specs.Facts.{EventValue}
-use Rattle.txc_db.specs.Seen.{FrontValue}
+use Rattle.txc_db.specs.FrontsAndFeeds.{FrontValue}
 use Rattle.txc_db.specs.History.{History, AreTagged, tags_at}
 use Rattle.txc_db.proofs.Histories.{tags_stay}
 

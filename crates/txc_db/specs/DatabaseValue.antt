@@ -5,12 +5,12 @@ use Rattle.txc_stream.specs.Names.{Name}
 use Rattle.txc_rows.specs.declared.store_error.TheConstants.{MAX_MATCHING, MOST_MATCHING}
 use Rattle.txc_rows.specs.declared.version.Versioned.{Versioned}
 use Rattle.txc_rows.specs.States.{State}
-use Rattle.txc_rows.specs.Keeping.{KeepsStates}
+use Rattle.txc_rows.specs.KeptStates.{KeepsStates}
 use Rattle.txc_rows.specs.declared.query.Change.{Change}
 use Rattle.txc_rows.specs.Net.{net_changes}
 use Rattle.txc_rows.specs.Versions.{after_net, purged, counted_from}
 use Rattle.txc_db.specs.Facts.{EventValue}
-use Rattle.txc_db.specs.Seen.{FrontValue}
+use Rattle.txc_db.specs.FrontsAndFeeds.{FrontValue}
 use Rattle.txc_db.specs.History.{History, state_at, AreTagged, pin_event, commit_event, state_event}
 
 -- The identity of its history; the history; the kept versions; how many of them may match a query. The horizon;
@@ -61,9 +61,9 @@ without stamp [] = []
 without stamp (s ∷ ss) = if s == stamp then ss else s ∷ without stamp ss
 
 -- none is below the one before it
-abbrev pub Rises : List ℕ → Type 0
-Rises [] = Unit {0}
-Rises (s ∷ ss) = AllByRecursion (λ t. s ≤ t) ss × Rises ss
+abbrev pub StampsAscend : List ℕ → Type 0
+StampsAscend [] = Unit {0}
+StampsAscend (s ∷ ss) = AllByRecursion (λ t. s ≤ t) ss × StampsAscend ss
 
 -- a stamp that can be read
 pub record IsReadable (horizon newest stamp : ℕ) : Type 0 where
@@ -77,7 +77,7 @@ pub record IsSound (d : DatabaseValue) : Type 0 where
   pub kept : KeepsStates (state_at d.history) d.horizon (newest d) d.versions
   pub limit : IsLimit d.most
   pub held : AllByRecursion (IsReadable d.horizon (newest d)) d.holds
-  pub rising : Rises d.holds
+  pub rising : StampsAscend d.holds
 
 -- ---- after the calls
 

@@ -1,12 +1,12 @@
 -- Words for what is done under the lock, which only this crate's private functions promise.
 use Rattle.std.specs.Prelude.{◌≡◌, ◌⊎◌, ◌+◌, true, false, length, fold, Some}
-use Rattle.txc_stream.specs.Posted.{PosterValue}
+use Rattle.txc_stream.specs.Published.{PosterValue}
 use Rattle.txc_db.specs.declared.error.DbError.{DbError}
 use Rattle.txc_db.specs.declared.error.DbError.TheVariants.{Conflict, Broken}
 use Rattle.txc_db.specs.declared.answered.CommitError.{CommitError}
 use Rattle.txc_db.specs.declared.answered.CommitError.TheVariants as commits
 use Rattle.txc_db.specs.Facts.{EventValue}
-use Rattle.txc_db.specs.Seen.{FrontValue}
+use Rattle.txc_db.specs.FrontsAndFeeds.{FrontValue}
 use Rattle.txc_db.specs.History.{History}
 use Rattle.txc_db.specs.DatabaseValue.{DatabaseValue}
 

@@ -4,9 +4,9 @@ ghost use Rattle.txc_stream.specs.Names.{stored, HasRow};
 ghost use Rattle.txc_rows.specs.RowTags.{query_tag};
 ghost use Rattle.txc_db.specs.History.{event_at, pin_event};
 ghost use Rattle.txc_db.specs.DatabaseValue.{next_horizon};
-ghost use Rattle.txc_db.specs.Seen.{taken_at_start};
+ghost use Rattle.txc_db.specs.FrontsAndFeeds.{taken_at_start};
 ghost use Rattle.txc_db.specs.Calls.{IsHoldRefused, IsUnpinRefused, IsVacuumRefused, IsQueryRefused, IsPinRefused};
-ghost use Rattle.txc_db.specs.Shared.{IsDatabaseOf, MayAnswer, IsQueryAnswer, IsQuietIn, IsEventIn, MayRefuse, IsSharedCommitRefused};
+ghost use Rattle.txc_db.specs.DatabaseReply.{IsDatabaseOf, MayAnswer, IsQueryAnswer, IsQuietIn, IsEventIn, MayRefuse, IsSharedCommitRefused};
 
 use crate::answered::{Answered, CommitError};
 use crate::db_core::DbCore;
@@ -15,7 +15,7 @@ use crate::event::Event;
 use crate::feed::Feed;
 use crate::held::Held;
 use crate::history_front::HistoryFront;
-use crate::lock::lock_soon;
+use crate::lock::lock_spinning;
 use crate::locked::Locked;
 use crate::naming::Naming;
 use crate::pinned::Pinned;
@@ -77,7 +77,7 @@ impl<J: Naming> Database<J> {
         ensures tag { IfOk result (λ answered. answered.answer.tags ≡ query_tag query.now ∷ []) }
         ensures refused { IfErr result (MayRefuse J.database_history (λ d. IsQueryRefused d query.now stamp)) }
     {
-        lock_soon(rt, &self.lock).query(alloc, query, stamp)
+        lock_spinning(rt, &self.lock).query(alloc, query, stamp)
     }
 
     /// Holds the newest stamp: no vacuum passes it until the hold is released. Fails if there are
@@ -85,7 +85,7 @@ impl<J: Naming> Database<J> {
     pub fn hold(&self, rt: &impl Wait, alloc: Global) -> Result<Held<J>, DbError>
         ensures refused { IfErr result (MayRefuse J.database_history IsHoldRefused) }
     {
-        let Answered { answer, front } = lock_soon(rt, &self.lock).hold(alloc)?;
+        let Answered { answer, front } = lock_spinning(rt, &self.lock).hold(alloc)?;
         Ok(Held::new(answer, front))
     }
 
@@ -120,7 +120,7 @@ impl<J: Naming> Database<J> {
         ensures refused { IfErr result
             (MayRefuse J.database_history (λ d. IsSharedCommitRefused d base read.now changes.now)) }
     {
-        lock_soon(rt, &self.lock).commit(rt, alloc, base, read, changes)
+        lock_spinning(rt, &self.lock).commit(rt, alloc, base, read, changes)
     }
 
     /// Appends a pin of the wall-clock time `now`, in milliseconds, and holds its stamp, which is at least
@@ -141,7 +141,7 @@ impl<J: Naming> Database<J> {
         ensures late { IfOk result (λ pinned. at_least ≤ pinned.stamp) }
         ensures refused { IfErr result (MayRefuse J.database_history (λ d. IsPinRefused d at_least)) }
     {
-        lock_soon(rt, &self.lock).pin(rt, alloc, now, at_least)
+        lock_spinning(rt, &self.lock).pin(rt, alloc, now, at_least)
     }
 
     /// Removes one hold of the stamp, as maintenance does with those of pins. Fails if the stamp has no hold,
@@ -149,7 +149,7 @@ impl<J: Naming> Database<J> {
     pub fn unpin(&self, rt: &impl Wait, stamp: Stamp) -> Result<(), DbError>
         ensures refused { IfErr result (MayRefuse J.database_history (λ d. IsUnpinRefused d stamp)) }
     {
-        lock_soon(rt, &self.lock).unpin(stamp)
+        lock_spinning(rt, &self.lock).unpin(stamp)
     }
 
     /// Moves the horizon to the least held stamp, or to the newest if none is held, and returns it. Fails, and
@@ -158,7 +158,7 @@ impl<J: Naming> Database<J> {
         ensures answer { IfOk result (MayAnswer J.database_history (λ d horizon. horizon ≡ next_horizon d)) }
         ensures refused { IfErr result (MayRefuse J.database_history IsVacuumRefused) }
     {
-        lock_soon(rt, &self.lock).vacuum()
+        lock_spinning(rt, &self.lock).vacuum()
     }
 
     /// Returns the database without its lock, once no other thread has it.
@@ -193,6 +193,6 @@ impl<J: Naming> Database<J> {
         ensures { IfOk result (λ feed.
             feed.taken ≡ taken_at_start J.database_history (length feed.history)) }
     {
-        lock_soon(rt, &self.lock).feed()
+        lock_spinning(rt, &self.lock).feed()
     }
 }

@@ -26,7 +26,7 @@ use std::marker::Model;
 use std::sync::Arc;
 use txc_rows::{MAX_MATCHING, Query, VersionRows, tags_are_sound, versions_keep_states};
 use txc_stamp::Stamp;
-use txc_stream::{EventRow, MAX_CAPACITY, Pen};
+use txc_stream::{AppendToken, EventRow, MAX_CAPACITY};
 use txc_tags::TagSet;
 use txc_validity::{Found, answer_at, validity_is_the_largest};
 
@@ -125,7 +125,7 @@ impl DbCore {
 
     /// Makes an empty database over SQLite, whose ghost history the pen writes. It has room for 4,294,967,294
     /// events. Fails only if memory cannot be allocated, or with an error of SQLite.
-    pub fn unstored(alloc: Global, pen: Pen<Event>) -> Result<DbCore, DbError>
+    pub fn unstored(alloc: Global, pen: AppendToken<Event>) -> Result<DbCore, DbError>
         requires { pen.list ≡ [] }
         ensures history { IfOk result (λ d. (d.history ≡ []) × (d.events ≡ unstored pen.number)) }
         ensures kept { IfOk result (λ d. (d.versions ≡ []) × (d.horizon ≡ 0)) }
@@ -138,7 +138,11 @@ impl DbCore {
 
     /// Makes an empty database over this kind of store, whose ghost history the pen writes. It has room for
     /// 4,294,967,294 events. Fails only if memory cannot be allocated, or the store fails.
-    pub fn unstored_over(alloc: Global, rows: RowStore, pen: Pen<Event>) -> Result<DbCore, DbError>
+    pub fn unstored_over(
+        alloc: Global,
+        rows: RowStore,
+        pen: AppendToken<Event>,
+    ) -> Result<DbCore, DbError>
         requires { pen.list ≡ [] }
         ensures history { IfOk result (λ d. (d.history ≡ []) × (d.events ≡ unstored pen.number)) }
         ensures kept { IfOk result (λ d. (d.versions ≡ []) × (d.horizon ≡ 0)) }

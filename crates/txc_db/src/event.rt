@@ -5,7 +5,7 @@ use crate::naming::Naming;
 use std::marker::{Model, PhantomData};
 use std::sync::Arc;
 use txc_rows::Change;
-use txc_stream::{Noted, Posts};
+use txc_stream::{Publishes, Witnessed};
 use txc_tags::TagSet;
 
 /// The fact that an event records.
@@ -47,7 +47,7 @@ impl Event {
 /// The note of an event that is not stored: its tags.
 pub struct EventTags;
 
-impl Noted<Event, Arc<TagSet>> for EventTags {
+impl Witnessed<Event, Arc<TagSet>> for EventTags {
     ghost use Rattle.std.specs.Prelude.{◌≡◌};
     ghost use Rattle.std.specs.Arc.{arc_value};
 
@@ -59,7 +59,7 @@ pub struct PostedTags<J: Naming> {
     of: PhantomData<J>,
 }
 
-impl<J: Naming> Posts<Event, Option<Arc<TagSet>>> for PostedTags<J> {
+impl<J: Naming> Publishes<Event, Option<Arc<TagSet>>> for PostedTags<J> {
     ghost use Rattle.std.specs.Prelude.{◌≡◌, ◌≤◌, length, IfSome};
     ghost use Rattle.std.specs.Arc.{arc_value};
     ghost use Rattle.txc_db.specs.History.{AreTagged, tags_at};

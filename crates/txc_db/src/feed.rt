@@ -10,11 +10,11 @@ use crate::history_front::HistoryFront;
 use crate::naming::Naming;
 use std::marker::Model;
 use std::sync::{Arc, Wait};
-use txc_stream::{Walker, longer_of_two, prefix_of_itself};
+use txc_stream::{Cursor, longer_of_two, prefix_of_itself};
 use txc_tags::TagSet;
 
 /// Cursor through the posted events of a database.
-pub(crate) type EventWalker<J> = Walker<Event, Option<Arc<TagSet>>, PostedTags<J>>;
+pub(crate) type EventWalker<J> = Cursor<Event, Option<Arc<TagSet>>, PostedTags<J>>;
 
 /// The events of the database, one after the other, for a thread without the lock.
 ///
@@ -28,7 +28,7 @@ pub struct Feed<J: Naming> {
 
 impl<J: Naming> Model for Feed<J> {
     ghost use Rattle.std.specs.Prelude.{◌≡◌, ◌≤◌, length};
-    ghost use Rattle.txc_db.specs.Seen.{FeedValue};
+    ghost use Rattle.txc_db.specs.FrontsAndFeeds.{FeedValue};
 
     ghost Value = { FeedValue };
 

@@ -7,7 +7,7 @@ ghost use Rattle.txc_rows.specs.RowTags.{tags_between};
 ghost use Rattle.txc_db.specs.Facts.{commit, net_of};
 ghost use Rattle.txc_db.specs.History.{pin_event, state_at, state_after_event, tags_at};
 ghost use Rattle.txc_db.specs.Room.{events_room, AreTagsKept, AreTagsGone};
-ghost use Rattle.txc_db.specs.Held.{HistoryValue, front_in, event_in, IsPrepared};
+ghost use Rattle.txc_db.specs.HeldHistory.{HistoryValue, front_in, event_in, IsPrepared};
 
 use crate::event::{Event, EventTags, What};
 use crate::history_front::HistoryFront;
@@ -17,7 +17,7 @@ use std::alloc::{AllocError, Global};
 use std::marker::Model;
 use std::sync::Arc;
 use txc_stamp::Stamp;
-use txc_stream::{Draft, EventRow, Pen, Window};
+use txc_stream::{AppendToken, EventRow, GhostRecord, Window};
 use txc_tags::TagSet;
 
 /// The history of a database: a front that shows the whole of it, and, if it is ghost, a window with the tags
@@ -32,7 +32,7 @@ pub(crate) struct History {
 
 impl Model for History {
     ghost use Rattle.std.specs.Prelude.{◌≡◌, []};
-    ghost use Rattle.txc_db.specs.Held.{HistoryValue, HasWindow, first_kept, room_in};
+    ghost use Rattle.txc_db.specs.HeldHistory.{HistoryValue, HasWindow, first_kept, room_in};
 
     ghost Value = { HistoryValue };
 
@@ -62,7 +62,7 @@ impl History {
     }
 
     /// Makes a ghost history without events.
-    pub(crate) fn unstored(alloc: Global, pen: Pen<Event>) -> History
+    pub(crate) fn unstored(alloc: Global, pen: AppendToken<Event>) -> History
         requires { pen.list ≡ [] }
         ensures { (result.events ≡ unstored pen.number) × (result.history ≡ []) × (result.first ≡ 0) }
     {
@@ -75,7 +75,11 @@ impl History {
     }
 
     /// Makes a ghost history with one event, whose tags are not stored.
-    pub(crate) fn begun(alloc: Global, mut pen: Pen<Event>, draft: Draft<Event>) -> History
+    pub(crate) fn begun(
+        alloc: Global,
+        mut pen: AppendToken<Event>,
+        draft: GhostRecord<Event>,
+    ) -> History
         requires none { pen.list ≡ [] }
         requires tagged { draft.value.tags ≡ tags_between [] (state_after_event [] draft.value) }
         ensures events { result.events ≡ unstored pen.number }
@@ -210,7 +214,7 @@ impl History {
             };
             return Ok(Prepared::Stored(Box::new(alloc, event)?));
         }
-        let draft = Draft::of::<Net, AsCommit>(&net);
+        let draft = GhostRecord::of::<Net, AsCommit>(&net);
         let Net { changes, tags } = net;
         let tags = Arc::new(alloc, tags)?;
         Ok(Prepared::Unstored(Loose {
@@ -235,7 +239,7 @@ impl History {
             };
             return Ok(Prepared::Stored(Box::new(alloc, event)?));
         }
-        let draft = Draft::of::<u64, AsPin>(&moment);
+        let draft = GhostRecord::of::<u64, AsPin>(&moment);
         let tags = Arc::new(alloc, tags)?;
         Ok(Prepared::Unstored(Loose {
             changes: Vec::new(alloc),

@@ -32,7 +32,7 @@ impl Model for HistoryFront {
     ghost use Rattle.txc_db.specs.History.{AreTagged};
     ghost use Rattle.txc_db.specs.Room.{events_room};
     ghost use Rattle.txc_stream.specs.Names.{stored, HasRow};
-    ghost use Rattle.txc_db.specs.Seen.{FrontValue};
+    ghost use Rattle.txc_db.specs.FrontsAndFeeds.{FrontValue};
 
     ghost Value = { FrontValue };
 

@@ -1,7 +1,7 @@
 //! The held stamps, one for each hold, in ascending order.
 ghost use Rattle.std.specs.Prelude.{◌≡◌, ◌<◌, ◌≤◌, true, false, length, IfSome, IfNone};
 ghost use Rattle.std.specs.List.{remove, AllByRecursion};
-ghost use Rattle.txc_db.specs.DatabaseValue.{least, without, is_held, Rises};
+ghost use Rattle.txc_db.specs.DatabaseValue.{least, without, is_held, StampsAscend};
 
 use txc_stamp::Stamp;
 
@@ -25,7 +25,7 @@ pub(crate) fn place_of(holds: &[Stamp], stamp: Stamp) -> Option<usize>
 
 /// Returns the least held stamp, or the newest stamp if none is held.
 pub(crate) fn least_held(holds: &[Stamp], newest: Stamp) -> Stamp
-    requires rising { Rises holds.now }
+    requires rising { StampsAscend holds.now }
     requires within { AllByRecursion (λ stamp. stamp ≤ newest) holds.now }
     ensures { result ≡ least newest holds.now }
 {

@@ -1,6 +1,6 @@
 //! Lemmas about the definitions. They have no code.
 ghost use Rattle.txc_db.specs.Laws.{EventTagsAreSound, StatesStay, TagsStay, PinsChangeNothing, OneHoldLess};
-ghost use Rattle.txc_db.specs.Worked.{WorkedHistory};
+ghost use Rattle.txc_db.specs.WorkedHistory.{WorkedHistory};
 
 use txc_rows::states_are_maps;
 

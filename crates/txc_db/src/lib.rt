@@ -31,7 +31,7 @@ pub use held::Held;
 pub use history_front::HistoryFront;
 pub use holds::MAX_HOLDS;
 pub use laws::{one_hold_less, pins_change_nothing, states_stay, tags_are_sound, worked_history};
-pub use lock::lock_soon;
+pub use lock::lock_spinning;
 pub use naming::Naming;
 pub use pinned::Pinned;
 pub use row_store::RowStore;

@@ -24,7 +24,7 @@ fn pause_after(tried: u32) {
 
 /// Acquires the lock, as [`Mutex::lock`] does, but tries it for a while before it sleeps: waking a sleeping
 /// thread mostly takes longer than the lock is held.
-pub fn lock_soon<'a, T, R: Wait>(rt: &R, lock: &'a Mutex<T>) -> MutexGuard<'a, T> {
+pub fn lock_spinning<'a, T, R: Wait>(rt: &R, lock: &'a Mutex<T>) -> MutexGuard<'a, T> {
     for tried in 0..TRIES {
         if let Some(guard) = lock.try_lock() {
             return guard;

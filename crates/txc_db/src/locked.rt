@@ -1,14 +1,14 @@
 //! The database's calls under its lock.
 ghost use Rattle.std.specs.Prelude.{◌≡◌, ◌+◌, ◌<◌, ◌≤◌, ◌++◌, ◌∷◌, [], true, false, length, Some, Err, IfOk, IfErr, IsOk, OnOk, OnErr};
-ghost use Rattle.txc_stream.specs.Posted.{PosterValue};
+ghost use Rattle.txc_stream.specs.Published.{PosterValue};
 ghost use Rattle.txc_stream.specs.declared.segment.TheConstants.{SEGMENT_LEN};
 ghost use Rattle.txc_rows.specs.RowTags.{query_tag};
 ghost use Rattle.txc_validity.specs.Answers.{IsAnswer};
 ghost use Rattle.txc_db.specs.History.{state_at};
-ghost use Rattle.txc_db.specs.Seen.{taken_at_start};
+ghost use Rattle.txc_db.specs.FrontsAndFeeds.{taken_at_start};
 ghost use Rattle.txc_db.specs.DatabaseValue.{DatabaseValue, front_of, after_hold, after_unpin, after_vacuum, after_pin, after_commit, newest, next_horizon, is_held};
 ghost use Rattle.txc_db.specs.Calls.{IsHoldable, IsHoldRefused, IsUnpinRefused, IsVacuumRefused, IsAnswerable, matching_of, IsQueryRefused, IsPinnable, IsPinRefused, IsCommittable};
-ghost use Rattle.txc_db.specs.Shared.{IsDatabaseOf, IsSharedCommitRefused};
+ghost use Rattle.txc_db.specs.DatabaseReply.{IsDatabaseOf, IsSharedCommitRefused};
 ghost use Rattle.txc_db.specs.Locked.{IsLockedLeft, IsCommitLeft, IsRefusalWith, AreAllPosted};
 
 use crate::answered::{Answered, CommitError};
@@ -25,15 +25,15 @@ use std::marker::Model;
 use std::sync::{Arc, Wait};
 use txc_rows::{Change, Query};
 use txc_stamp::Stamp;
-use txc_stream::{Poster, Slip};
+use txc_stream::{NextCell, Publisher};
 use txc_tags::TagSet;
 use txc_validity::Found;
 
 /// Publishes the events of the named database.
-type EventPoster<J> = Poster<Event, Option<Arc<TagSet>>, PostedTags<J>>;
+type EventPoster<J> = Publisher<Event, Option<Arc<TagSet>>, PostedTags<J>>;
 
 /// Memory for the posting of one event, allocated in advance.
-type EventSlip<J> = Slip<Event, Option<Arc<TagSet>>, PostedTags<J>>;
+type EventSlip<J> = NextCell<Event, Option<Arc<TagSet>>, PostedTags<J>>;
 
 /// The content of the lock: the named database, and the publisher of its events for the feeds. While the
 /// database is not broken, each event is posted.
@@ -62,7 +62,7 @@ impl<J: Naming> Locked<J> {
         requires { core.events ≡ J.database_history }
         ensures { IfOk result (λ locked. locked ≡ core) }
     {
-        let poster = Poster::new(alloc, core.history().len())?;
+        let poster = Publisher::new(alloc, core.history().len())?;
         Ok(Locked { core, poster })
     }
 

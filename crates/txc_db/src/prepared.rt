@@ -7,13 +7,13 @@ use crate::event::Event;
 use crate::net::Net;
 use std::sync::Arc;
 use txc_rows::Change;
-use txc_stream::{Draft, Drafts};
+use txc_stream::{GhostRecord, GhostRecords};
 use txc_tags::TagSet;
 
 /// The event of a commit, made of its net changes.
 pub(crate) struct AsCommit;
 
-impl Drafts<Net, Event> for AsCommit {
+impl GhostRecords<Net, Event> for AsCommit {
     ghost use Rattle.txc_db.specs.Facts.{commit};
 
     ghost record_of = { λ net. record { fact = commit net.changes.items; tags = net.tags } };
@@ -22,7 +22,7 @@ impl Drafts<Net, Event> for AsCommit {
 /// The event of a pin, made of its wall-clock time.
 pub(crate) struct AsPin;
 
-impl Drafts<u64, Event> for AsPin {
+impl GhostRecords<u64, Event> for AsPin {
     ghost use Rattle.txc_db.specs.History.{pin_event};
 
     ghost record_of = { λ moment. pin_event moment };
@@ -33,7 +33,7 @@ impl Drafts<u64, Event> for AsPin {
 pub(crate) struct Loose {
     pub(crate) changes: Vec<Change>,
     pub(crate) tags: Arc<TagSet>,
-    pub(crate) draft: Draft<Event>,
+    pub(crate) draft: GhostRecord<Event>,
     ghost made: { changes.items ≡ net_of draft.value.fact },
     ghost noted: { arc_value tags ≡ draft.value.tags },
 }
@@ -46,7 +46,7 @@ pub(crate) enum Prepared {
 }
 
 impl Prepared {
-    ghost use Rattle.txc_db.specs.Held.{event_in};
+    ghost use Rattle.txc_db.specs.HeldHistory.{event_in};
 
     /// Returns the changes that it makes; a pin makes none.
     pub(crate) fn net(&self) -> &[Change]

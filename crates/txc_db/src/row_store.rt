@@ -1,7 +1,7 @@
 //! The stores of the current versions of a database's rows.
 ghost use Rattle.std.specs.Prelude.{◌≡◌, [], IfErr, IfOk, ℕ};
 ghost use Rattle.txc_rows.specs.States.{State};
-ghost use Rattle.txc_rows.specs.Keeping.{KeepsStates};
+ghost use Rattle.txc_rows.specs.KeptStates.{KeepsStates};
 ghost use Rattle.txc_rows.specs.StoreErrors.{IsStoreRefusal};
 
 use std::alloc::Global;

@@ -7,7 +7,7 @@ use Rattle.txc_node.specs.declared.entry.Entry.{Entry}
 use Rattle.txc_node.specs.declared.place.Place.{Place}
 use Rattle.txc_node.specs.declared.stored.Stored.{Stored}
 use Rattle.txc_node.specs.Places.{equal_places, equal_places_is, equal_places_itself}
-use Rattle.txc_node.specs.Indexed.{has_place, is_live, entry_at, stored_of}
+use Rattle.txc_node.specs.IndexedEntries.{has_place, is_live, entry_at, stored_of}
 
 pub is_later : (q first : Place) (ps : List Place) → equal_places q first ≡ false → has_place (first ∷ ps) q ≡ true → has_place ps q ≡ true
 is_later q first ps other h = sym (ap (λ b. b || has_place ps q) other) ∙ h

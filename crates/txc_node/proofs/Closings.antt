@@ -18,7 +18,7 @@ use Rattle.txc_node.specs.declared.stored.Stored.{Stored}
 use Rattle.txc_node.specs.Places.{place_of, equal_places, equal_places_is}
 use Rattle.txc_node.specs.Entries.{same_place, AreApart}
 use Rattle.txc_node.specs.Cache.{is_invalidated, entry_after}
-use Rattle.txc_node.specs.Indexed.{HeldEntries, entry_of, entries_of, ArePlaced, entries_under, reaches_under, in_stead, has_place, equal_rows, lists_rows, AreSparedAt, listed, Relists, is_live, is_stale, stored_after, closed_reach, stays_live, after_at, AreTied, Closes, IsSpared}
+use Rattle.txc_node.specs.IndexedEntries.{HeldEntries, entry_of, entries_of, ArePlaced, entries_under, reaches_under, in_stead, has_place, equal_rows, lists_rows, AreSparedAt, listed, Relists, is_live, is_stale, stored_after, closed_reach, stays_live, after_at, AreTied, Closes, IsSpared}
 use Rattle.txc_node.proofs.Apart.{eqb_sym, after_both, after_apart}
 use Rattle.txc_node.proofs.Pairs.{found_pair, stored_at}
 use Rattle.txc_node.proofs.Buckets.{live_stored}

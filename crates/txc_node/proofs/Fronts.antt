@@ -12,7 +12,7 @@ use Rattle.txc_node.specs.declared.place.Place.{Place}
 use Rattle.txc_node.specs.declared.stored.Stored.{Stored}
 use Rattle.txc_node.specs.Places.{place_of, place_at, equal_places}
 use Rattle.txc_node.specs.Entries.{same_place, others, AreApart}
-use Rattle.txc_node.specs.Indexed.{entry_of, entries_of, entry_at, ArePlaced, AreTied, entries_under, reaches_under, listed, IndexesKeys, Relists}
+use Rattle.txc_node.specs.IndexedEntries.{entry_of, entries_of, entry_at, ArePlaced, AreTied, entries_under, reaches_under, listed, IndexesKeys, Relists}
 use Rattle.txc_node.proofs.Apart.{filter_keeps, first_apart, same_place_self}
 use Rattle.txc_node.proofs.KeyLists.{all_under, brought_first}
 use Rattle.txc_node.proofs.Pairs.{pair_of, promoted_is, promoted_keeps}

@@ -16,7 +16,7 @@ use Rattle.txc_node.specs.declared.place.Place.{Place}
 use Rattle.txc_node.specs.Places.{place_of, equal_places, equal_places_is}
 use Rattle.txc_node.specs.Entries.{AreApart}
 use Rattle.txc_node.specs.Cache.{is_invalidated, entry_after}
-use Rattle.txc_node.specs.Indexed.{HeldEntries, stored_of, entry_at, is_live, lists, IndexesTags, IsListed, KeepsListed, AreSparedBy, Closes, IsSpared}
+use Rattle.txc_node.specs.IndexedEntries.{HeldEntries, stored_of, entry_at, is_live, lists, IndexesTags, IsListed, KeepsListed, AreSparedBy, Closes, IsSpared}
 use Rattle.txc_node.proofs.Fronts.{found_self}
 use Rattle.txc_node.proofs.Listed.{kept_tags}
 

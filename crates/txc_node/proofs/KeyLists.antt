@@ -9,7 +9,7 @@ use Rattle.txc_tags.specs.Keys.{Call, same_call}
 use Rattle.txc_tags.proofs.Offered.{same_call_is, same_call_itself, both_true}
 use Rattle.txc_node.specs.declared.entry.Entry.{Entry}
 use Rattle.txc_node.specs.Entries.{same_place, meets_range, outlasts, is_best, others, AreApart}
-use Rattle.txc_node.specs.Indexed.{AreOf, entries_under, reaches_under, listed, IndexesKeys, Relists}
+use Rattle.txc_node.specs.IndexedEntries.{AreOf, entries_under, reaches_under, listed, IndexesKeys, Relists}
 use Rattle.txc_node.proofs.Apart.{remove_is_others, filter_apart}
 use Rattle.txc_node.proofs.Swept.{find_filter, all_filter, find_same}
 

@@ -9,7 +9,7 @@ use Rattle.txc_stamp.specs.Interval.{Interval}
 use Rattle.txc_tags.specs.Keys.{Call, same_call}
 use Rattle.txc_node.specs.declared.entry.Entry.{Entry}
 use Rattle.txc_node.specs.Entries.{meets_range, outlasts, is_best, same_place}
-use Rattle.txc_node.specs.Indexed.{AreOf, meets, lasts_longer, IsFound}
+use Rattle.txc_node.specs.IndexedEntries.{AreOf, meets, lasts_longer, IsFound}
 use Rattle.txc_node.specs.Best.{BestSoFar, StandsAt}
 use Rattle.txc_node.proofs.Best.{best_end}
 use Rattle.txc_node.proofs.Inserts.{position_none, find_none, find_at}

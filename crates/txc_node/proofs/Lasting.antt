@@ -8,8 +8,8 @@ use Rattle.indexmap.specs.IndexMap.{set_value_at}
 use Rattle.txc_stamp.specs.Interval.{Interval}
 use Rattle.txc_tags.specs.Keys.{Call, same_call}
 use Rattle.txc_tags.proofs.Offered.{same_call_is, same_call_itself}
-use Rattle.txc_node.specs.Indexed.{listed}
-use Rattle.txc_node.specs.Sweeping.{ends_by, lasting, AreAllLasting}
+use Rattle.txc_node.specs.IndexedEntries.{listed}
+use Rattle.txc_node.specs.Sweep.{ends_by, lasting, AreAllLasting}
 
 -- ---- lists
 

@@ -9,7 +9,7 @@ use Rattle.txc_node.specs.declared.place.Place.{Place}
 use Rattle.txc_node.specs.declared.stored.Stored.{Stored}
 use Rattle.txc_node.specs.Places.{place_of}
 use Rattle.txc_node.specs.Entries.{same_place, AreApart}
-use Rattle.txc_node.specs.Indexed.{entry_of, entries_of, reaches_under, listed, IndexesKeys, Relists, AreTied}
+use Rattle.txc_node.specs.IndexedEntries.{entry_of, entries_of, reaches_under, listed, IndexesKeys, Relists, AreTied}
 use Rattle.txc_node.proofs.KeyLists.{reaches_last, dropped_last}
 
 -- ---- lists and their last

@@ -17,7 +17,7 @@ use Rattle.txc_node.specs.declared.place.Place.{Place}
 use Rattle.txc_node.specs.declared.stored.Stored.{Stored}
 use Rattle.txc_node.specs.Places.{place_of, equal_places, equal_places_is}
 use Rattle.txc_node.specs.Entries.{same_place, others, AreApart}
-use Rattle.txc_node.specs.Indexed.{entry_at, stored_of, entries_under, lists, IsListed, IndexesTags, KeepsListed, with_first}
+use Rattle.txc_node.specs.IndexedEntries.{entry_at, stored_of, entries_under, lists, IsListed, IndexesTags, KeepsListed, with_first}
 use Rattle.txc_node.proofs.Apart.{filter_keeps}
 use Rattle.txc_node.proofs.Fronts.{all_at, found_self, holds_under}
 

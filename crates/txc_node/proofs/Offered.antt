@@ -4,7 +4,7 @@ use Rattle.std.proofs.lemmas.Bool.Decides.{nat_tests}
 use Rattle.txc_tags.specs.Keys.{Call}
 use Rattle.txc_tags.specs.declared.tag.Tag.{Tag}
 use Rattle.txc_node.specs.declared.entry.Entry.{Entry}
-use Rattle.txc_node.specs.declared.hit.Shown.{Shown}
+use Rattle.txc_node.specs.declared.hit.HitValue.{HitValue}
 use Rattle.txc_node.specs.declared.node.Inserted.{Inserted}
 use Rattle.txc_node.specs.declared.op.Op.{Op}
 use Rattle.txc_node.specs.declared.op.Op.TheVariants.{Insert, Lookup, Event, Sweep, Trim}
@@ -16,7 +16,7 @@ use Rattle.txc_node.specs.Cache.{Cache, lookup_answer, after_lookup, is_kept, ou
 use Rattle.txc_node.specs.Steps.{found_reply, entry_refusal, refusal_of, step_reply, after_step, reply_by, reply_to, cache_by, after_op, MayReply}
 
 -- a step that is not refused
-done : (longest : ℕ) (c : Cache) (op : Op) (reply : Reply Shown) (next : Cache) → refusal_of longest c op ≡ None → reply ≡ step_reply c op → next ≡ after_step c op → MayReply longest c op reply next
+done : (longest : ℕ) (c : Cache) (op : Op) (reply : Reply HitValue) (next : Cache) → refusal_of longest c op ≡ None → reply ≡ step_reply c op → next ≡ after_step c op → MayReply longest c op reply next
 done longest c op reply next none is leaves = inl (is ∙ sym (ap (λ r. reply_by r (step_reply c op)) none), leaves ∙ sym (ap (λ r. cache_by r c (after_step c op)) none))
 
 -- a step that is refused
@@ -47,7 +47,7 @@ insertion_out_of_memory longest c e next none stores leaves = inr ((none, stores
 
 -- ---- the other steps
 
-pub lookup_done : (longest : ℕ) (c : Cache) (key : Call) (lo hi : ℕ) (found : Option Shown) (next : Cache) → lo ≤ hi → found ≡ lookup_answer c key lo hi → next ≡ after_lookup c key lo hi
+pub lookup_done : (longest : ℕ) (c : Cache) (key : Call) (lo hi : ℕ) (found : Option HitValue) (next : Cache) → lo ≤ hi → found ≡ lookup_answer c key lo hi → next ≡ after_lookup c key lo hi
     → MayReply longest c (Lookup key lo hi) (found_reply found) next
 lookup_done longest c key lo hi found next l is leaves =
     let none : refusal_of longest c (Lookup key lo hi) ≡ None = grind (arith, nat_tests) in
@@ -81,7 +81,7 @@ trim_done longest c most count next is leaves = done longest c (Trim most) (repl
 -- ---- where memory is at hand
 
 -- a step that is not refused for memory has one reply, and leaves one cache
-pub replied_one_way : (longest : ℕ) (c : Cache) (op : Op) (reply : Reply Shown) (next : Cache) → reply ≢ replies.Refused Memory → MayReply longest c op reply next
+pub replied_one_way : (longest : ℕ) (c : Cache) (op : Op) (reply : Reply HitValue) (next : Cache) → reply ≢ replies.Refused Memory → MayReply longest c op reply next
     → (reply ≡ reply_to longest c op) × (next ≡ after_op longest c op)
 replied_one_way longest c op reply next other (inl h) = h
 replied_one_way longest c op reply next other (inr h) = absurd (other h.1)

@@ -10,7 +10,7 @@ use Rattle.txc_node.specs.declared.place.Place.{Place}
 use Rattle.txc_node.specs.declared.stored.Stored.{Stored}
 use Rattle.txc_node.specs.Places.{place_of, equal_places, equal_places_is}
 use Rattle.txc_node.specs.Entries.{same_place, others, AreApart}
-use Rattle.txc_node.specs.Indexed.{entry_of, stored_of, entries_of, entry_at, ArePlaced}
+use Rattle.txc_node.specs.IndexedEntries.{entry_of, stored_of, entries_of, entry_at, ArePlaced}
 use Rattle.txc_node.proofs.Apart.{same_place_sym}
 
 -- ---- what is found at a place

@@ -16,7 +16,7 @@ use Rattle.txc_node.specs.declared.versions.Found.{Found}
 use Rattle.txc_node.specs.Places.{place_of, place_at, equal_places}
 use Rattle.txc_node.specs.Entries.{same_place, others, AreApart}
 use Rattle.txc_node.specs.Cache.{Cache, ends_no_earlier, is_kept, replayed_reach}
-use Rattle.txc_node.specs.Indexed.{entry_at, entry_of, entries_of, ArePlaced, AreTied, entries_under, reaches_under, listed, IndexesKeys, Relists, StandsUnder, with_first, IsFound}
+use Rattle.txc_node.specs.IndexedEntries.{entry_at, entry_of, entries_of, ArePlaced, AreTied, entries_under, reaches_under, listed, IndexesKeys, Relists, StandsUnder, with_first, IsFound}
 use Rattle.txc_node.proofs.Apart.{same_place_sym, first_apart}
 use Rattle.txc_node.proofs.Inserts.{others_like, others_none, filter_same, place_moved}
 use Rattle.txc_node.proofs.Swept.{find_same}

@@ -17,8 +17,8 @@ use Rattle.txc_node.specs.declared.stored.Stored.{Stored}
 use Rattle.txc_node.specs.Places.{place_of, place_at, equal_places, equal_places_is, equal_places_itself}
 use Rattle.txc_node.specs.Entries.{AreApart}
 use Rattle.txc_node.specs.Cache.{has_ended}
-use Rattle.txc_node.specs.Indexed.{entry_of, entries_of, entry_at, ArePlaced, AreTied, IndexesKeys, IndexesTags, KeepsListed, entries_under, reaches_under, listed}
-use Rattle.txc_node.specs.Sweeping.{AreStored, AreGoneAt, HasReach, IsGone, Sheds, elsewhere, ends_by, lasting}
+use Rattle.txc_node.specs.IndexedEntries.{entry_of, entries_of, entry_at, ArePlaced, AreTied, IndexesKeys, IndexesTags, KeepsListed, entries_under, reaches_under, listed}
+use Rattle.txc_node.specs.Sweep.{AreStored, AreGoneAt, HasReach, IsGone, Sheds, elsewhere, ends_by, lasting}
 use Rattle.txc_node.proofs.Apart.{filter_apart, filter_keeps}
 use Rattle.txc_node.proofs.Fronts.{found_self}
 use Rattle.txc_node.proofs.KeyLists.{all_under}

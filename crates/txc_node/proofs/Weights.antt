@@ -14,8 +14,8 @@ use Rattle.txc_node.specs.declared.place.Place.{Place}
 use Rattle.txc_node.specs.declared.stored.Stored.{Stored}
 use Rattle.txc_node.specs.Places.{equal_places}
 use Rattle.txc_node.specs.Cache.{bytes_of}
-use Rattle.txc_node.specs.Indexed.{after_at, entry_of, entries_of, is_stale, stored_after}
-use Rattle.txc_node.specs.Weighed.{value_len_in}
+use Rattle.txc_node.specs.IndexedEntries.{after_at, entry_of, entries_of, is_stale, stored_after}
+use Rattle.txc_node.specs.WeighedEntries.{value_len_in}
 use Rattle.txc_node.proofs.Pairs.{removed_keeps}
 
 -- the bytes of the value of what is stored, if anything is

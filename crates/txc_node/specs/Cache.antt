@@ -8,7 +8,7 @@ use Rattle.txc_tags.specs.declared.tag.Tag.{Tag}
 use Rattle.txc_tags.specs.Tags.{sets_match}
 use Rattle.txc_tags.specs.Keys.{Call}
 use Rattle.txc_node.specs.declared.entry.Entry.{Entry}
-use Rattle.txc_node.specs.declared.hit.Shown.{Shown}
+use Rattle.txc_node.specs.declared.hit.HitValue.{HitValue}
 use Rattle.txc_node.specs.declared.node.Inserted.{Inserted}
 use Rattle.txc_node.specs.declared.node.Inserted.TheVariants.{Stored, Kept}
 use Rattle.txc_node.specs.Entries.{same_place, is_best, others, AreApart}
@@ -65,11 +65,11 @@ abbrev pub after_lookup : Cache → Call → ℕ → ℕ → Cache
 after_lookup c key lo hi = after_use c (found c key lo hi)
 
 -- the hit of an entry, with its reach known up to the last stamp of its span
-abbrev pub shown_of : ℕ → Entry → Shown
+abbrev pub shown_of : ℕ → Entry → HitValue
 shown_of processed e = record { reach = shown processed e.reach; value = e.value; tags = e.tags }
 
 -- the answer of the entry that is found, or none, which is a miss
-abbrev pub lookup_answer : Cache → Call → ℕ → ℕ → Option Shown
+abbrev pub lookup_answer : Cache → Call → ℕ → ℕ → Option HitValue
 lookup_answer c key lo hi = option_map (shown_of c.processed) (found c key lo hi)
 
 -- ---- an insertion: the events that the entry missed are replayed first

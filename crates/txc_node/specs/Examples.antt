@@ -5,7 +5,7 @@ use Rattle.txc_tags.specs.declared.tag.Tag.{Tag}
 use Rattle.txc_tags.specs.Tags.{wildcard, id_tag, group_tag}
 use Rattle.txc_tags.specs.Keys.{Call}
 use Rattle.txc_node.specs.declared.entry.Entry.{Entry}
-use Rattle.txc_node.specs.declared.hit.Shown.{Shown}
+use Rattle.txc_node.specs.declared.hit.HitValue.{HitValue}
 use Rattle.txc_node.specs.declared.node.Inserted.TheVariants.{Stored, Kept}
 use Rattle.txc_node.specs.Cache.{Cache, empty_cache, lookup_answer, after_lookup, outcome, after_insert, closed_count, after_event}
 
@@ -23,7 +23,7 @@ ended_reach lo known = record { lo = lo; known = known; still = false }
 abbrev pub byte_entry : ℕ → ℕ → Interval → List Tag → Entry
 byte_entry n byte reach tags = record { key = example_call n; value = byte ∷ []; reach = reach; tags = tags }
 
-abbrev pub shows : ℕ → Interval → List Tag → Option Shown
+abbrev pub shows : ℕ → Interval → List Tag → Option HitValue
 shows byte reach tags = Some (record { reach = reach; value = byte ∷ []; tags = tags })
 
 -- ---- a still valid entry is found as far as events were taken, and an event that matches closes it

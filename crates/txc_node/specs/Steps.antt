@@ -4,7 +4,7 @@ use Rattle.txc_node.specs.declared.entry.Entry.{Entry}
 use Rattle.txc_node.specs.declared.entry.EntryError.{EntryError}
 use Rattle.txc_node.specs.declared.entry.EntryError.TheVariants as entries
 use Rattle.txc_node.specs.declared.hit.Hit.{Hit}
-use Rattle.txc_node.specs.declared.hit.Shown.{Shown}
+use Rattle.txc_node.specs.declared.hit.HitValue.{HitValue}
 use Rattle.txc_node.specs.declared.op.Op.{Op}
 use Rattle.txc_node.specs.declared.op.Op.TheVariants.{Insert, Lookup, Event, Sweep, Trim}
 use Rattle.txc_node.specs.declared.refusal.Refusal.{Refusal}
@@ -35,7 +35,7 @@ is_refusal (replies.Trimmed count) = false
 is_refusal (replies.Refused refusal) = true
 
 -- the reply, with a copy of its hit
-abbrev pub seen_reply : Reply Hit → Reply Shown
+abbrev pub seen_reply : Reply Hit → Reply HitValue
 seen_reply (replies.Inserted inserted) = replies.Inserted inserted
 seen_reply (replies.Hit hit) = replies.Hit (seen hit)
 seen_reply replies.Miss = replies.Miss
@@ -45,7 +45,7 @@ seen_reply (replies.Trimmed count) = replies.Trimmed count
 seen_reply (replies.Refused refusal) = replies.Refused refusal
 
 -- the reply of a lookup, by its result
-abbrev pub found_reply : Option Shown → Reply Shown
+abbrev pub found_reply : Option HitValue → Reply HitValue
 found_reply None = replies.Miss
 found_reply (Some shown) = replies.Hit shown
 
@@ -75,7 +75,7 @@ refusal_of longest c (Trim most) = None
 -- ---- steps
 
 -- the reply of a step that does not fail
-abbrev pub step_reply : Cache → Op → Reply Shown
+abbrev pub step_reply : Cache → Op → Reply HitValue
 step_reply c (Insert e) = replies.Inserted (outcome c e)
 step_reply c (Lookup key lo hi) = found_reply (lookup_answer c key lo hi)
 step_reply c (Event stamp tags) = replies.Closed (closed_count c stamp tags)
@@ -91,12 +91,12 @@ after_step c (Sweep horizon) = after_sweep c horizon
 after_step c (Trim most) = after_trim c most
 
 -- a step fails with the error, or has its reply
-abbrev pub reply_by : Option Refusal → Reply Shown → Reply Shown
+abbrev pub reply_by : Option Refusal → Reply HitValue → Reply HitValue
 reply_by None reply = reply
 reply_by (Some refusal) reply = replies.Refused refusal
 
 -- the reply if memory can be allocated and a value may have at most `longest` bytes
-abbrev pub reply_to : ℕ → Cache → Op → Reply Shown
+abbrev pub reply_to : ℕ → Cache → Op → Reply HitValue
 reply_to longest c op = reply_by (refusal_of longest c op) (step_reply c op)
 
 -- a failed step changes nothing
@@ -118,7 +118,7 @@ MayGrow longest c (Trim most) = ⊥
 
 -- The step has this reply, and leaves that cache: those with memory at hand; or it may need memory, fails for
 -- it, and changes nothing.
-abbrev pub MayReply : ℕ → Cache → Op → Reply Shown → Cache → Type 0
+abbrev pub MayReply : ℕ → Cache → Op → Reply HitValue → Cache → Type 0
 MayReply longest c op reply next =
     ((reply ≡ reply_to longest c op) × (next ≡ after_op longest c op))
     ⊎ (MayGrow longest c op × (reply ≡ replies.Refused Memory) × (next ≡ c))

@@ -5,7 +5,7 @@ use Rattle.std.specs.List.{flat_map}
 use Rattle.txc_stamp.specs.Texts.{reach_text}
 use Rattle.txc_tags.specs.TextKey.{key_text}
 use Rattle.txc_node.specs.declared.entry.Entry.{Entry}
-use Rattle.txc_node.specs.declared.hit.Shown.{Shown}
+use Rattle.txc_node.specs.declared.hit.HitValue.{HitValue}
 use Rattle.txc_node.specs.declared.node.Inserted.{Inserted}
 use Rattle.txc_node.specs.declared.node.Inserted.TheVariants.{Stored, Kept}
 use Rattle.txc_node.specs.declared.refusal.Refusal.{Refusal}
@@ -49,7 +49,7 @@ refusal_text ValueTooLong = codes "N4"
 refusal_text Memory = codes "memory"
 
 -- a reply, without the end of its line
-abbrev pub reply_text : Reply Shown → List ℕ
+abbrev pub reply_text : Reply HitValue → List ℕ
 reply_text (replies.Inserted inserted) = inserted_text inserted
 reply_text (replies.Hit shown) =
     codes "hit " ++ (reach_text shown.reach ++ (codes " " ++ hex_text shown.value))

@@ -3,7 +3,7 @@ ghost use Rattle.std.specs.Prelude.{List, ◌≡◌, ◌∷◌, [], true, false,
 ghost use Rattle.std.specs.List.{AllByRecursion};
 ghost use Rattle.txc_node.specs.declared.place.Place.{Place};
 ghost use Rattle.txc_node.specs.Places.{equal_places};
-ghost use Rattle.txc_node.specs.Indexed.{Closes, IsSpared, has_place, is_live};
+ghost use Rattle.txc_node.specs.IndexedEntries.{Closes, IsSpared, has_place, is_live};
 
 use crate::closing::Closing;
 use crate::keyed::KeyedEntries;

@@ -3,7 +3,7 @@ ghost use Rattle.std.specs.Prelude.{◌≡◌, true};
 ghost use Rattle.std.specs.List.{AllByRecursion};
 ghost use Rattle.txc_tags.specs.declared.tag.Rows.{Rows};
 ghost use Rattle.txc_node.specs.declared.place.Place.{Place};
-ghost use Rattle.txc_node.specs.Indexed.{AreSparedAt, Closes, IsSpared, is_stale, lists_rows, stored_after};
+ghost use Rattle.txc_node.specs.IndexedEntries.{AreSparedAt, Closes, IsSpared, is_stale, lists_rows, stored_after};
 
 use crate::bucket::Bucket;
 use crate::keyed::KeyedEntries;

@@ -22,7 +22,7 @@ pub struct Hit<'a> {
 
 /// A copy of a hit: a value with its validity interval and its tags.
 #[derive(Debug, Drop)]
-pub struct Shown {
+pub struct HitValue {
     /// The reach of the result, known up to the last stamp of its span.
     pub reach: Reach,
     /// The result.
@@ -42,10 +42,10 @@ impl Hit<'_> {
     }
 
     /// Returns a copy of the hit. Fails only if memory cannot be allocated.
-    pub fn copy(&self, alloc: Global) -> Result<Shown, AllocError>
+    pub fn copy(&self, alloc: Global) -> Result<HitValue, AllocError>
         ensures { IfOk result (λ shown. shown ≡ seen self.now) }
     {
-        Ok(Shown {
+        Ok(HitValue {
             reach: self.reach(),
             value: self.value.copy(alloc)?,
             tags: self.tags.copy(alloc)?,

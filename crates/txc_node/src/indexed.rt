@@ -6,14 +6,14 @@ ghost use Rattle.txc_node.specs.declared.entry.Entry.{Entry};
 ghost use Rattle.txc_node.specs.Places.{place_of, equal_places};
 ghost use Rattle.txc_node.specs.Entries.{others, same_place};
 ghost use Rattle.txc_node.specs.Cache.{bytes_of, is_invalidated, entry_after, has_ended, longest_within, staying_count};
-ghost use Rattle.txc_node.specs.Indexed.{IndexesTags, IsFound, IsListed, KeepsListed, entries_under, entry_of, reaches_under, with_first};
+ghost use Rattle.txc_node.specs.IndexedEntries.{IndexesTags, IsFound, IsListed, KeepsListed, entries_under, entry_of, reaches_under, with_first};
 
 use crate::closing::Closing;
 use crate::entry::Entry;
 use crate::keyed::KeyedEntries;
-use crate::leaving::Leaving;
 use crate::node::MOST_CAPACITY;
 use crate::place::Place;
+use crate::remaining_entries::RemainingEntries;
 use crate::stored::{Stored, in_reach, split};
 use crate::sweeping::Sweep;
 use crate::tag_index::TagIndex;
@@ -33,7 +33,7 @@ pub(crate) struct IndexedEntries {
 }
 
 impl Model for IndexedEntries {
-    ghost use Rattle.txc_node.specs.Indexed.{HeldEntries, IndexesTags};
+    ghost use Rattle.txc_node.specs.IndexedEntries.{HeldEntries, IndexesTags};
 
     ghost Value = { HeldEntries };
 
@@ -168,11 +168,11 @@ impl IndexedEntries {
     }
 
     /// Returns the entries of a node that ends, without the indexes.
-    pub(crate) fn leave(self) -> Leaving
+    pub(crate) fn drain(self) -> RemainingEntries
         ensures { result ≡ self.entries }
     {
         let IndexedEntries { entries, tags: _ } = self;
-        entries.leave()
+        entries.drain()
     }
 
     /// Returns the entries with the index of their keys.

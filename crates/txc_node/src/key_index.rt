@@ -2,8 +2,8 @@
 ghost use Rattle.std.specs.Prelude.{List, take, drop, ◌+◌, ◌-◌, ◌≡◌, ◌<◌, ◌∷◌, [], length, map, remove, if◌then◌else◌, is_ok, MatchOption};
 ghost use Rattle.txc_stamp.specs.Interval.{Interval};
 ghost use Rattle.txc_tags.specs.Keys.{Call};
-ghost use Rattle.txc_node.specs.Indexed.{listed, Relists, in_stead};
-ghost use Rattle.txc_node.specs.Sweeping.{lasting, AreAllLasting};
+ghost use Rattle.txc_node.specs.IndexedEntries.{listed, Relists, in_stead};
+ghost use Rattle.txc_node.specs.Sweep.{lasting, AreAllLasting};
 
 use crate::call_key::CallKey;
 use crate::sweeping::Sweep;

@@ -8,14 +8,14 @@ ghost use Rattle.txc_node.specs.declared.entry.Entry.{Entry};
 ghost use Rattle.txc_node.specs.Places.{place_of};
 ghost use Rattle.txc_node.specs.Entries.{is_best, others, same_place};
 ghost use Rattle.txc_node.specs.Cache.{bytes_of, has_ended};
-ghost use Rattle.txc_node.specs.Indexed.{AreOf, Closes, HoldsApart, IndexesTags, IsFound, IsSpared, Relists, StandsUnder, entries_under, entry_at, entry_of, is_live, listed, reaches_under, stored_of, with_first};
+ghost use Rattle.txc_node.specs.IndexedEntries.{AreOf, Closes, HoldsApart, IndexesTags, IsFound, IsSpared, Relists, StandsUnder, entries_under, entry_at, entry_of, is_live, listed, reaches_under, stored_of, with_first};
 
 use crate::closing::Closing;
 use crate::entry::Entry;
 use crate::key_index::KeyIndex;
-use crate::leaving::Leaving;
 use crate::node::MOST_CAPACITY;
 use crate::place::Place;
+use crate::remaining_entries::RemainingEntries;
 use crate::stored::{Stored, join, join_some};
 use crate::sweeping::Sweep;
 use crate::tag_index::TagIndex;
@@ -36,7 +36,7 @@ pub(crate) struct KeyedEntries {
 }
 
 impl Model for KeyedEntries {
-    ghost use Rattle.txc_node.specs.Indexed.{AreTied, HeldEntries, entries_of};
+    ghost use Rattle.txc_node.specs.IndexedEntries.{AreTied, HeldEntries, entries_of};
 
     ghost Value = { HeldEntries };
 
@@ -93,11 +93,11 @@ impl KeyedEntries {
     }
 
     /// Returns the entries of a node that ends, without the index.
-    pub(crate) fn leave(self) -> Leaving
+    pub(crate) fn drain(self) -> RemainingEntries
         ensures { result ≡ self.entries }
     {
         let KeyedEntries { cache, keys: _ } = self;
-        Leaving { cache }
+        RemainingEntries { cache }
     }
 
     /// Returns the entry of the key whose span meets the stamps from `lo` to `hi` and that lasts longest, and

@@ -20,7 +20,6 @@ mod indexed;
 mod key_index;
 mod keyed;
 pub mod laws;
-mod leaving;
 mod mixing;
 mod node;
 mod op;
@@ -28,6 +27,7 @@ mod others;
 mod place;
 mod record;
 mod refusal;
+mod remaining_entries;
 mod replay;
 mod reply;
 mod search;
@@ -40,14 +40,14 @@ mod weighed;
 
 pub use counts::{Counts, FunctionCounts};
 pub use entry::{Entry, EntryError};
-pub use hit::{Hit, Shown};
-pub use leaving::Leaving;
+pub use hit::{Hit, HitValue};
 pub use node::{
     EmptyRange, Inserted, MAX_CAPACITY, MAX_RECENT, MOST_CAPACITY, NodeCore, OutOfOrder,
 };
 pub use op::Op;
 pub use record::Record;
 pub use refusal::Refusal;
+pub use remaining_entries::RemainingEntries;
 pub use reply::Reply;
 pub use search::Search;
 pub use value::{MAX_VALUE_LEN, MOST_VALUE_LEN, Value};

@@ -7,15 +7,15 @@ ghost use Rattle.txc_node.specs.contracts.node.NodeCore.{the_row};
 ghost use Rattle.txc_node.specs.declared.entry.Entry.{Entry};
 ghost use Rattle.txc_node.specs.Cache.{ends_no_earlier, shown_of, empty_cache, empty_cache_at, found, lookup_answer, after_lookup, is_kept, after_insert, outcome, after_event, closed_count, after_sweep, swept_count, bytes_of, after_trim, trimmed_count};
 ghost use Rattle.txc_node.specs.Hit.{seen};
-ghost use Rattle.txc_node.specs.Indexed.{IsFound, IsSearchOf, shown_as};
+ghost use Rattle.txc_node.specs.IndexedEntries.{IsFound, IsSearchOf, shown_as};
 
 mod texts;
 
 use crate::entry::Entry;
 use crate::hit::Hit;
 use crate::indexed::IndexedEntries;
-use crate::leaving::Leaving;
 use crate::place::Place;
+use crate::remaining_entries::RemainingEntries;
 use crate::replay::replay_for;
 use crate::search::Search;
 use crate::stored::Stored;
@@ -190,7 +190,7 @@ impl NodeCore {
     }
 
     /// Returns the entries of a node that is no longer used. Does not allocate.
-    pub fn leave(self) -> Leaving
+    pub fn drain(self) -> RemainingEntries
         ensures { result ≡ self.entries }
     {
         let NodeCore {
@@ -198,7 +198,7 @@ impl NodeCore {
             processed: _,
             recent: _,
         } = self;
-        entries.leave()
+        entries.drain()
     }
 
     /// Returns the stamp of the last event that it took.

@@ -3,7 +3,7 @@ ghost use Rattle.std.specs.Prelude.{◌≡◌, ◌<◌, ◌↔◌, ◌++◌, [],
 ghost use Rattle.std.specs.Option.{option_to_list};
 ghost use Rattle.txc_node.specs.declared.place.Place.{Place};
 ghost use Rattle.txc_node.specs.Places.{equal_places};
-ghost use Rattle.txc_node.specs.Indexed.{has_place, is_live};
+ghost use Rattle.txc_node.specs.IndexedEntries.{has_place, is_live};
 
 use crate::keyed::KeyedEntries;
 use crate::place::Place;

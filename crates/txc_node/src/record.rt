@@ -1,5 +1,5 @@
 //! Records of a node's history.
-use crate::hit::Shown;
+use crate::hit::HitValue;
 use crate::op::Op;
 use crate::reply::Reply;
 
@@ -10,5 +10,5 @@ pub struct Record {
     pub turn: usize,
     pub op: Op,
     /// The reply to the step, with a copy of the hit if it was one.
-    pub reply: Reply<Shown>,
+    pub reply: Reply<HitValue>,
 }

@@ -2,13 +2,13 @@
 ghost use Rattle.std.specs.Prelude.{◌≡◌, IfOk};
 ghost use Rattle.txc_node.specs.Steps.{is_refusal, seen_reply};
 
-use crate::hit::{Hit, Shown};
+use crate::hit::{Hit, HitValue};
 use crate::node::Inserted;
 use crate::refusal::Refusal;
 use std::alloc::{AllocError, Global};
 use std::fmt;
 
-/// Reply to a step. A node lends a hit, so its own replies have a [`Hit`]; a record has a copy, a [`Shown`].
+/// Reply to a step. A node lends a hit, so its own replies have a [`Hit`]; a record has a copy, a [`HitValue`].
 #[derive(Debug, Drop)]
 pub enum Reply<H> {
     /// Result of an insertion.
@@ -42,7 +42,7 @@ impl<H> Reply<H> {
 impl Reply<Hit<'_>> {
     /// Returns the reply with a copy of its hit. Only a hit allocates; fails only if that memory cannot be
     /// allocated.
-    pub fn into_owned(self, alloc: Global) -> Result<Reply<Shown>, AllocError>
+    pub fn into_owned(self, alloc: Global) -> Result<Reply<HitValue>, AllocError>
         ensures { IfOk result (λ r. r ≡ seen_reply self.entry) }
     {
         match self {

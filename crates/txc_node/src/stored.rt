@@ -2,7 +2,7 @@
 ghost use Rattle.std.specs.Prelude.{◌≡◌};
 ghost use Rattle.std.specs.Option.{option_map};
 ghost use Rattle.txc_node.specs.Places.{place_of};
-ghost use Rattle.txc_node.specs.Indexed.{entry_of};
+ghost use Rattle.txc_node.specs.IndexedEntries.{entry_of};
 
 use crate::entry::Entry;
 use crate::place::Place;

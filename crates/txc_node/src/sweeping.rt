@@ -2,8 +2,8 @@
 ghost use Rattle.std.specs.Prelude.{◌≡◌};
 ghost use Rattle.std.specs.List.{AllByRecursion};
 ghost use Rattle.txc_tags.specs.Keys.{Call};
-ghost use Rattle.txc_node.specs.Indexed.{entries_of, listed};
-ghost use Rattle.txc_node.specs.Sweeping.{AreStored, AreGoneAt, HasReach, IsGone, Sheds, elsewhere, ends_by};
+ghost use Rattle.txc_node.specs.IndexedEntries.{entries_of, listed};
+ghost use Rattle.txc_node.specs.Sweep.{AreStored, AreGoneAt, HasReach, IsGone, Sheds, elsewhere, ends_by};
 
 use crate::call_key::CallKey;
 use crate::place::Place;

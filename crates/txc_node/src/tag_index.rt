@@ -6,7 +6,7 @@ ghost use Rattle.txc_tags.specs.declared.tag.Rows.{Rows};
 ghost use Rattle.txc_node.specs.declared.place.Place.{Place};
 ghost use Rattle.txc_tags.specs.Tags.{same_tag, has_tag, rows_match};
 ghost use Rattle.txc_node.specs.Places.{equal_places};
-ghost use Rattle.txc_node.specs.Indexed.{AreSparedBy, Closes, IsSpared, KeepsListed, equal_rows, is_live, lists, lists_rows};
+ghost use Rattle.txc_node.specs.IndexedEntries.{AreSparedBy, Closes, IsSpared, KeepsListed, equal_rows, is_live, lists, lists_rows};
 
 use crate::bucket::Bucket;
 use crate::closing::Closing;

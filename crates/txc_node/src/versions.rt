@@ -5,8 +5,8 @@ ghost use Rattle.txc_stamp.specs.Interval.{Interval};
 ghost use Rattle.txc_tags.specs.Keys.{Call};
 ghost use Rattle.txc_node.specs.declared.entry.Entry.{Entry};
 ghost use Rattle.txc_node.specs.Best.{BestSoFar};
-ghost use Rattle.txc_node.specs.Indexed.{AreOf, meets, lasts_longer, in_stead};
-ghost use Rattle.txc_node.specs.Sweeping.{ends_by, lasting};
+ghost use Rattle.txc_node.specs.IndexedEntries.{AreOf, meets, lasts_longer, in_stead};
+ghost use Rattle.txc_node.specs.Sweep.{ends_by, lasting};
 
 use crate::sweeping::Sweep;
 use std::alloc::{AllocError, Global};

@@ -6,8 +6,8 @@ ghost use Rattle.std.specs.NonZero.{non_zero_usize_get};
 ghost use Rattle.lru.specs.LruCache.{IsValid, lru_cache, last_entry, promoted, put_entries, displaced};
 ghost use Rattle.txc_node.specs.Places.{equal_places};
 ghost use Rattle.txc_node.specs.Cache.{bytes_of};
-ghost use Rattle.txc_node.specs.Indexed.{after_at, closed_reach, entries_of, stays_live};
-ghost use Rattle.txc_node.specs.Weighed.{value_len_in};
+ghost use Rattle.txc_node.specs.IndexedEntries.{after_at, closed_reach, entries_of, stays_live};
+ghost use Rattle.txc_node.specs.WeighedEntries.{value_len_in};
 
 use crate::closing::Closing;
 use crate::node::MOST_CAPACITY;
@@ -31,7 +31,7 @@ impl Model for WeighedEntries {
     ghost use Rattle.lru.specs.LruCache.{LruCache as Pairs};
     ghost use Rattle.txc_node.specs.declared.place.Place.{Place};
     ghost use Rattle.txc_node.specs.declared.stored.Stored.{Stored};
-    ghost use Rattle.txc_node.specs.Weighed.{IsWeighed};
+    ghost use Rattle.txc_node.specs.WeighedEntries.{IsWeighed};
 
     ghost Value = { Pairs Place Stored };
 

@@ -6,7 +6,7 @@ use Rattle.std.proofs.lemmas.List.Elements.{Contains-append_right}
 use Rattle.std.proofs.lemmas.List.Kept.{AllPairs-filter, AllPairs-cons}
 use Rattle.txc_stamp.specs.Interval.{Interval, Holds}
 use Rattle.txc_cushion.specs.declared.pin.Pin.{Pin}
-use Rattle.txc_cushion.specs.Pinning.{Falls}
+use Rattle.txc_cushion.specs.Pin.{PinsDescend}
 use Rattle.txc_pinset.specs.Members.{PinSetValue, IsPinSet, IsHeld, AreBounds, is_held_by, kept, narrowed, with_present}
 
 -- ---- members that a reach holds
@@ -47,7 +47,7 @@ narrowed_held p reach space is some = record { set = narrowed_is p reach is some
 -- ---- bounds
 
 -- the stamp at a place lies between that at the last place and that at the first
-between : (ms : List Pin) (d : Pin) (k : ℕ) → Falls ms → k < length ms
+between : (ms : List Pin) (d : Pin) (k : ℕ) → PinsDescend ms → k < length ms
     → ((get_or ms (length ms - 1) d).stamp ≤ (get_or ms k d).stamp) × ((get_or ms k d).stamp ≤ (get_or ms 0 d).stamp)
 between ms d zero falls below = (low (length ms - 1) refl, omega arith)
   where
@@ -60,7 +60,7 @@ between ms d (suc k) falls below = (low (length ms - 1 - suc k) refl, let above 
     low zero is = let same : length ms - 1 ≡ suc k = omega arith in rw same (omega arith)
     low (suc n) is = let above = falls (suc k) (length ms - 1) d (omega arith) (omega arith) in omega (arith, above)
 
-pub bounds_are : (ms : List Pin) (newest oldest : Pin) → Falls ms → slice_get ms 0 ≡ Some newest → slice_get ms (length ms - 1) ≡ Some oldest → AreBounds ms (oldest.stamp, newest.stamp)
+pub bounds_are : (ms : List Pin) (newest oldest : Pin) → PinsDescend ms → slice_get ms 0 ≡ Some newest → slice_get ms (length ms - 1) ≡ Some oldest → AreBounds ms (oldest.stamp, newest.stamp)
 bounds_are ms newest oldest falls first last = record {
   least = (length ms - 1, oldest, slice_get_within ms (length ms - 1) oldest last, at_last oldest, refl);
   greatest = (0, newest, slice_get_within ms 0 newest first, at_first newest, refl);

@@ -2,7 +2,7 @@
 use Rattle.std.specs.Prelude.{◌≡◌, ◌≢◌, ◌⊎◌, ◌↔◌, ℕ, ◌+◌, ◌<◌, true, List, [], ◌∷◌, All, Contains}
 use Rattle.txc_stamp.specs.Interval.{Interval, Holds}
 use Rattle.txc_cushion.specs.declared.pin.Pin.{Pin}
-use Rattle.txc_cushion.specs.Pinning.{Falls}
+use Rattle.txc_cushion.specs.Pin.{PinsDescend}
 use Rattle.txc_pinset.specs.declared.choice.Choice.TheVariants.{Present}
 use Rattle.txc_pinset.specs.Members.{PinSetValue, IsPinSet, begun_pin_set, kept, narrowed, with_present, choice_of}
 
@@ -18,7 +18,7 @@ OnlyThePresentJoins = (p : PinSetValue) (new pin : Pin)
 
 -- each call leaves a pin set, which has a member or the present
 pub record NeverIsEmpty : Type 0 where
-  pub begins : (pins : List Pin) → Falls pins → IsPinSet (begun_pin_set pins)
+  pub begins : (pins : List Pin) → PinsDescend pins → IsPinSet (begun_pin_set pins)
   pub narrows : (p : PinSetValue) (reach : Interval) → IsPinSet p → kept reach p.members ≢ []
       → IsPinSet (narrowed reach p)
   pub joins : (p : PinSetValue) (pin : Pin) → IsPinSet p → All (λ m. m.stamp < pin.stamp) p.members

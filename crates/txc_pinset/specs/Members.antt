@@ -3,7 +3,7 @@ use Rattle.std.specs.Prelude.{◌≡◌, ℕ, ◌<◌, ◌≤◌, Bool, true, fa
 use Rattle.std.specs.List.{filter}
 use Rattle.txc_stamp.specs.Interval.{Interval}
 use Rattle.txc_cushion.specs.declared.pin.Pin.{Pin}
-use Rattle.txc_cushion.specs.Pinning.{is_older, Falls}
+use Rattle.txc_cushion.specs.Pin.{is_older, PinsDescend}
 use Rattle.txc_pinset.specs.declared.choice.Choice.{Choice}
 use Rattle.txc_pinset.specs.declared.choice.Choice.TheVariants.{Present, At}
 
@@ -14,7 +14,7 @@ pub record PinSetValue : Type 0 where
 
 -- invariant of a pin set: its members descend from the newest, and it has a member or the present
 pub record IsPinSet (p : PinSetValue) : Type 0 where
-  pub falls : Falls p.members
+  pub falls : PinsDescend p.members
   pub some : p.members ≡ [] → p.has_present ≡ true
 
 -- a pin set in a list that has room for `space` members: while the set has the present, there is room for its

@@ -1,6 +1,6 @@
 ghost use Rattle.std.specs.Prelude.{◌≡◌, ◌+◌, ◌<◌, ◌≤◌, ◌↔◌, [], All, IfOk, OnOk, OnErr, IsErr, MatchOption, true, vec_len, vec_capacity};
 ghost use Rattle.std.specs.List.{filter, list_any};
-ghost use Rattle.txc_cushion.specs.Pinning.{pin_of};
+ghost use Rattle.txc_cushion.specs.Pin.{pin_of};
 ghost use Rattle.txc_pinset.specs.Members.{is_held_by, kept};
 
 use crate::choice::Choice;

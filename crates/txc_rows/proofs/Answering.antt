@@ -16,12 +16,12 @@ use Rattle.txc_rows.specs.declared.version.Versioned.{Versioned}
 use Rattle.txc_rows.specs.declared.query.Query.{Query}
 use Rattle.txc_rows.specs.States.{query_table}
 use Rattle.txc_rows.specs.Versions.{suits}
-use Rattle.txc_rows.specs.Holdable.{IsStorable}
+use Rattle.txc_rows.specs.StorableVersions.{IsStorable}
 use Rattle.txc_rows.specs.declared.placed.Placed.{Placed}
 use Rattle.txc_rows.specs.Placed.{version_of, is_left, left_from}
-use Rattle.txc_rows.specs.Kept.{IsShown, IsListing}
+use Rattle.txc_rows.specs.LatestTable.{IsShown, IsListing}
 use Rattle.txc_rows.specs.Texts.{latest_schema}
-use Rattle.txc_rows.specs.Stored.{stored, placed_in, placed_all, queried_columns, version_shown, IsStored, AreVersionRows}
+use Rattle.txc_rows.specs.StoredVersion.{stored, placed_in, placed_all, queried_columns, version_shown, IsStored, AreVersionRows}
 use Rattle.txc_rows.proofs.Members.{both_true, passing, filtered_both}
 use Rattle.txc_rows.proofs.Commands.{alone, shown_columns, most_shown, listed, shown_names, IsListingOf}
 use Rattle.txc_rows.proofs.StoredRows.{select_stored, is_asked, shown_again, answered, IsPage}

@@ -9,9 +9,9 @@ use Rattle.txc_rows.specs.declared.query.Query.{Query}
 use Rattle.txc_rows.specs.Values.{RowValue}
 use Rattle.txc_rows.specs.States.{State, matches, answer}
 use Rattle.txc_rows.specs.Versions.{suits, is_visible, lives_at, shown_at, Follows, Pairwise, IsVersion, AreVersions}
-use Rattle.txc_rows.specs.Found.{IsNeedless, FindsAround}
-use Rattle.txc_rows.specs.Keeping.{KeepsStates}
-use Rattle.txc_rows.specs.Around.{HoldsOn, ShowsAround, AnswersAround}
+use Rattle.txc_rows.specs.FoundVersions.{IsNeedless, FindsAround}
+use Rattle.txc_rows.specs.KeptStates.{KeepsStates}
+use Rattle.txc_rows.specs.FoundAnswers.{HoldsOn, ShowsAround, AnswersAround}
 use Rattle.txc_rows.proofs.Members.{bool_cases, both_true, and_true, IsIn, is_in, contains_it, in_filter, from_filter, from_append, all_in, in_left}
 use Rattle.txc_rows.proofs.SaysLemmas.{behind, in_front, said_each, said_only, says_seen}
 use Rattle.txc_rows.proofs.VersionLemmas.{kept_versions}

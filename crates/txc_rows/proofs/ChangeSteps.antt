@@ -20,7 +20,7 @@ use Rattle.txc_rows.specs.States.{is_at}
 use Rattle.txc_rows.specs.Versions.{is_current, removed, put}
 use Rattle.txc_rows.specs.declared.placed.Placed.{Placed}
 use Rattle.txc_rows.specs.Placed.{versions_by_place, in_group, is_touched, has_key, closed_placed, new_placed, renewed, put_latest, put_replaced, HaveOwnKeys, IsOneCurrent, AreBelow, AreWellPlaced, AreAll, AreAmong, KeepsOthers, AddsAtEnd}
-use Rattle.txc_rows.specs.Kept.{latest_in, versions_of, HasLatest, HasWritten, IsStep}
+use Rattle.txc_rows.specs.LatestTable.{latest_in, versions_of, HasLatest, HasWritten, IsStep}
 use Rattle.txc_rows.proofs.Members.{bool_cases, both_true, and_true, IsIn, is_in, contains_it, in_left, in_map, all_in, few_left, none_of, filtered_both}
 use Rattle.txc_rows.proofs.StoredVersions.{hit_is}
 use Rattle.txc_rows.proofs.WriteLemmas.{no_permutation}

@@ -18,10 +18,10 @@ use Rattle.txc_rows.specs.declared.query.Change.TheVariants.{Put, Remove}
 use Rattle.txc_rows.specs.Values.{RowValue}
 use Rattle.txc_rows.specs.States.{State, is_at}
 use Rattle.txc_rows.specs.Versions.{suits, row_of, is_visible, lives_at, visible_rows, is_current, current, closed, removed, put, after_net, died_by, has_died_by, purged, death_from, counted_from, version_cmp, Follows, Pairwise, IsVersion}
-use Rattle.txc_rows.specs.Holdable.{IsStorable}
-use Rattle.txc_rows.specs.Says.{VersionsSay, AreUpTo}
-use Rattle.txc_rows.specs.Found.{Finds, FindsAround, IsNearer, IsNeedless}
-use Rattle.txc_rows.specs.Keeping.{KeepsStates, KeepsBegun}
+use Rattle.txc_rows.specs.StorableVersions.{IsStorable}
+use Rattle.txc_rows.specs.VersionsAndStates.{VersionsSay, AreUpTo}
+use Rattle.txc_rows.specs.FoundVersions.{Finds, FindsAround, IsNearer, IsNeedless}
+use Rattle.txc_rows.specs.KeptStates.{KeepsStates, KeepsBegun}
 use Rattle.txc_rows.proofs.Members.{passing, is_in, contains_it, in_map}
 use Rattle.txc_rows.proofs.StoredRows.{is_lt-nat_cmp}
 use Rattle.txc_rows.proofs.StoredVersions.{none_is}

@@ -11,9 +11,9 @@ use Rattle.txc_rows.specs.declared.query.Query.{Query}
 use Rattle.txc_rows.specs.Versions.{suits, current, is_current, purged}
 use Rattle.txc_rows.specs.declared.placed.Placed.{Placed}
 use Rattle.txc_rows.specs.Placed.{version_of, is_left, left_from}
-use Rattle.txc_rows.specs.Found.{Finds}
-use Rattle.txc_rows.specs.Keeping.{AnswersNewest}
-use Rattle.txc_rows.specs.Kept.{versions_of, IsFinding}
+use Rattle.txc_rows.specs.FoundVersions.{Finds}
+use Rattle.txc_rows.specs.KeptStates.{AnswersNewest}
+use Rattle.txc_rows.specs.LatestTable.{versions_of, IsFinding}
 use Rattle.txc_rows.proofs.Members.{few_left, filters_turned}
 use Rattle.txc_rows.proofs.FindLemmas.{asked, of_all, found_latest}
 use Rattle.txc_rows.proofs.KeepingLemmas.{no_later, keeps_purged, found_answers}

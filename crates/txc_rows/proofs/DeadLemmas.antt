@@ -14,10 +14,10 @@ use Rattle.txc_rows.specs.declared.replaced.Deaths.{Deaths}
 use Rattle.txc_rows.specs.declared.query.Query.{Query}
 use Rattle.txc_rows.specs.declared.version.Versioned.{Versioned}
 use Rattle.txc_rows.specs.Versions.{suits}
-use Rattle.txc_rows.specs.Holdable.{IsStorable}
+use Rattle.txc_rows.specs.StorableVersions.{IsStorable}
 use Rattle.txc_rows.specs.Placed.{version_of, lasts_to, is_left}
-use Rattle.txc_rows.specs.Indexed.{stamp_or_zero, death_of, dies_between, dead_between, picked, dies_within, spot_suits, spots_asked, AreIndexed, DiedFirst, DiedLast}
-use Rattle.txc_rows.specs.Kept.{IsFinding}
+use Rattle.txc_rows.specs.ReplacedIndex.{stamp_or_zero, death_of, dies_between, dead_between, picked, dies_within, spot_suits, spots_asked, AreIndexed, DiedFirst, DiedLast}
+use Rattle.txc_rows.specs.LatestTable.{IsFinding}
 use Rattle.txc_rows.proofs.Members.{IsIn, is_in, all_in, both_true, and_true, filtered_both, passing}
 use Rattle.txc_rows.proofs.IndexLemmas.{Points, death_low, picked_dead, within_point}
 use Rattle.txc_rows.proofs.FindLemmas.{asked}

@@ -10,15 +10,15 @@ use Rattle.txc_rows.specs.declared.version.Versioned.{Versioned}
 use Rattle.txc_rows.specs.declared.query.Query.{Query}
 use Rattle.txc_rows.specs.declared.query.Query.TheVariants.{ById}
 use Rattle.txc_rows.specs.Versions.{suits, version_cmp}
-use Rattle.txc_rows.specs.Found.{Finds}
-use Rattle.txc_rows.specs.Keeping.{AnswersStates}
+use Rattle.txc_rows.specs.FoundVersions.{Finds}
+use Rattle.txc_rows.specs.KeptStates.{AnswersStates}
 use Rattle.txc_rows.specs.declared.store_error.StoreError.{StoreError}
 use Rattle.txc_rows.specs.declared.placed.Placed.{Placed}
 use Rattle.txc_rows.specs.Placed.{version_of, versions_by_place, is_left, is_row_left, left_from, AreAmong}
 use Rattle.sqlite.specs.Order.{Row}
 use Rattle.txc_rows.specs.States.{query_table}
-use Rattle.txc_rows.specs.Stored.{version_shown, placed_from}
-use Rattle.txc_rows.specs.Kept.{versions_of, ArePassing, IsListing, IsFinding}
+use Rattle.txc_rows.specs.StoredVersion.{version_shown, placed_from}
+use Rattle.txc_rows.specs.LatestTable.{versions_of, ArePassing, IsListing, IsFinding}
 use Rattle.txc_rows.proofs.PlaceLemmas.{by_place_permutes}
 use Rattle.txc_rows.proofs.KeepingLemmas.{found_answers}
 use Rattle.txc_rows.proofs.Listed.{all_shown}

@@ -16,9 +16,9 @@ use Rattle.sqlite_trees.proofs.ListLemmas.{along_permutation, all_weaker, all-pe
 use Rattle.txc_rows.specs.declared.version.Versioned.{Versioned}
 use Rattle.txc_rows.specs.declared.query.Query.{Query}
 use Rattle.txc_rows.specs.Values.{RowValue}
-use Rattle.txc_rows.specs.Found.{Finds}
+use Rattle.txc_rows.specs.FoundVersions.{Finds}
 use Rattle.txc_rows.specs.Versions.{is_visible, lives_at, shown_at, suits, version_cmp, Follows, Pairwise, IsVersion, AreVersions}
-use Rattle.txc_rows.specs.Says.{IdsRise}
+use Rattle.txc_rows.specs.VersionsAndStates.{IdsAscend}
 use Rattle.txc_rows.proofs.Members.{bool_cases, both_true}
 use Rattle.txc_rows.proofs.SaysLemmas.{of_its_table}
 use Rattle.txc_rows.proofs.VersionLemmas.{kept_versions}
@@ -120,10 +120,10 @@ above t q v fits seen (w ∷ ws) f l = go (is_visible t w && suits q w) refl (ab
         (rising t v w table seen both.0 f.0 l.0, on)
     go false e on = on
 
-pub shown_rises : (t : ℕ) (q : Query) (vs : List Versioned) → Pairwise Follows vs → IsSorted version_cmp vs → IdsRise (shown_at q t vs)
+pub shown_rises : (t : ℕ) (q : Query) (vs : List Versioned) → Pairwise Follows vs → IsSorted version_cmp vs → IdsAscend (shown_at q t vs)
 shown_rises t q [] f s = tt
 shown_rises t q (v ∷ vs) f s = go (is_visible t v && suits q v) refl (shown_rises t q vs f.1 (tail_sorted v vs s))
   where
-    go : (b : Bool) → is_visible t v && suits q v ≡ b → IdsRise (shown_at q t vs) → IdsRise (map (λ x. x.row) (cond b (v ∷ filter (λ x. is_visible t x && suits q x) vs) (filter (λ x. is_visible t x && suits q x) vs)))
+    go : (b : Bool) → is_visible t v && suits q v ≡ b → IdsAscend (shown_at q t vs) → IdsAscend (map (λ x. x.row) (cond b (v ∷ filter (λ x. is_visible t x && suits q x) vs) (filter (λ x. is_visible t x && suits q x) vs)))
     go true e on = let both = both_true (is_visible t v) (suits q v) e in (above t q v both.1 both.0 vs f.0 (least_first v vs s), on)
     go false e on = on

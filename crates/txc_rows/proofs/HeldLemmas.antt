@@ -19,11 +19,11 @@ use Rattle.sqlite_trees.specs.declared.memory.MemStore.{MemStore}
 use borrow.Author.Tests.{eqb-true}
 use Rattle.txc_rows.specs.declared.query.Query.{Query}
 use Rattle.txc_rows.specs.declared.texts.TheConstants.{READ_LAST, READ_PLACED, READ_LEFT}
-use Rattle.txc_rows.specs.Holdable.{IsStorable}
+use Rattle.txc_rows.specs.StorableVersions.{IsStorable}
 use Rattle.txc_rows.specs.declared.placed.Placed.{Placed}
 use Rattle.txc_rows.specs.Placed.{is_left, placed_left, is_row_left, is_touched}
-use Rattle.txc_rows.specs.Stored.{stored, cells_of, number, placed_all, AreVersionRows}
-use Rattle.txc_rows.specs.Kept.{latest_in, HasTable, HasLatest, IsKept, IsStep, IsCall, IsSame, IsReading, IsLeaving, ArePassing}
+use Rattle.txc_rows.specs.StoredVersion.{stored, cells_of, number, placed_all, AreVersionRows}
+use Rattle.txc_rows.specs.LatestTable.{latest_in, HasTable, HasLatest, IsKept, IsStep, IsCall, IsSame, IsReading, IsLeaving, ArePassing}
 use Rattle.txc_rows.proofs.Members.{both_true, passing as passes}
 use Rattle.txc_rows.specs.States.{is_at}
 use Rattle.txc_rows.specs.Texts.{latest_schema}

@@ -22,10 +22,10 @@ use Rattle.txc_rows.specs.declared.query.Query.{Query}
 use Rattle.txc_rows.specs.declared.query.Query.TheVariants.{ById, ByGroup, All, Range}
 use Rattle.txc_rows.specs.declared.version.Versioned.{Versioned}
 use Rattle.txc_rows.specs.Versions.{suits}
-use Rattle.txc_rows.specs.Holdable.{IsStorable}
+use Rattle.txc_rows.specs.StorableVersions.{IsStorable}
 use Rattle.txc_stamp.specs.declared.stamp.TheConstants.{MOST_STAMP}
 use Rattle.txc_rows.specs.Placed.{version_of}
-use Rattle.txc_rows.specs.Indexed.{version_id, version_group, stamp_or_zero, death_of, spot_of, spots_from, FitsSpot, AreIndexed, is_from, dies_within, is_between, dies_between, spot_suits, spots_asked, picked, dead_between, DeathsRise}
+use Rattle.txc_rows.specs.ReplacedIndex.{version_id, version_group, stamp_or_zero, death_of, spot_of, spots_from, FitsSpot, AreIndexed, is_from, dies_within, is_between, dies_between, spot_suits, spots_asked, picked, dead_between, DeathsAscend}
 use Rattle.txc_rows.proofs.Members.{both_true, filters_turned, filtered_both, passing}
 
 -- ---- one key more or less
@@ -317,14 +317,14 @@ rise_of t k a b c d e f x y here there less =
     let keys : nat_cmp b e ≡ Equal = subst (λ n. nat_cmp b n ≡ Equal) (one.1 ∙ sym two.1) (number_itself b) in
     less_death c f x y (rw (tables, keys) at less)
 
-pub deaths_rise : (t k : ℕ) (ss : List Spot) → IsStrictlySortedBy spot_cmp ss → AllByRecursion (λ s. is_between t k k s ≡ true) ss → DeathsRise ss
+pub deaths_rise : (t k : ℕ) (ss : List Spot) → IsStrictlySortedBy spot_cmp ss → AllByRecursion (λ s. is_between t k k s ≡ true) ss → DeathsAscend ss
 deaths_rise t k [] sorted all = tt
 deaths_rise t k (s ∷ ss) sorted all = (
   all_both (λ x. spot_cmp s x ≡ Less) (λ x. is_between t k k x ≡ true) _ (λ x less is. rise_of t k s.table s.key s.death x.table x.key x.death s.number x.number all.0 is less) ss (sorted_head spot_cmp s ss sorted) all.1,
   deaths_rise t k ss (sorted_tail spot_cmp s ss sorted) all.1,
 )
 
-pub between_rise : (t k : ℕ) (d : Deaths) (ss : List Spot) → IsStrictlySortedBy spot_cmp ss → DeathsRise (filter (is_between t k k) (filter (dies_within d) ss))
+pub between_rise : (t k : ℕ) (d : Deaths) (ss : List Spot) → IsStrictlySortedBy spot_cmp ss → DeathsAscend (filter (is_between t k k) (filter (dies_within d) ss))
 between_rise t k d ss sorted =
     deaths_rise t k _ (IsStrictlySortedBy-filter spot_cmp (is_between t k k) _ (IsStrictlySortedBy-filter spot_cmp (dies_within d) ss sorted)) (passing (is_between t k k) (filter (dies_within d) ss))
 

@@ -8,11 +8,11 @@ use Rattle.txc_rows.specs.declared.query.Change.{Change}
 use Rattle.txc_rows.specs.States.{State, IsState}
 use Rattle.txc_rows.specs.Net.{IsNet}
 use Rattle.txc_rows.specs.Versions.{suits, current, after_net, purged, died_by, has_died_by}
-use Rattle.txc_rows.specs.Found.{Finds}
-use Rattle.txc_rows.specs.Says.{AreUpTo}
-use Rattle.txc_rows.specs.Holdable.{IsStorable}
+use Rattle.txc_rows.specs.FoundVersions.{Finds}
+use Rattle.txc_rows.specs.VersionsAndStates.{AreUpTo}
+use Rattle.txc_rows.specs.StorableVersions.{IsStorable}
 use Rattle.std.specs.List.{AllByRecursion}
-use Rattle.txc_rows.specs.Keeping.{KeepsStates, KeepsWritten, KeepsPurged, AnswersStates}
+use Rattle.txc_rows.specs.KeptStates.{KeepsStates, KeepsWritten, KeepsPurged, AnswersStates}
 use Rattle.txc_rows.proofs.Members.{is_in, contains_it, in_filter, from_filter}
 use Rattle.txc_rows.proofs.Rising.{changes_state}
 use Rattle.txc_rows.proofs.SaysLemmas.{newest_or, says_answer, says_nothing, says_written, says_quiet, says_purged}
@@ -69,19 +69,19 @@ keeps_next : (states : ℕ → State) (horizon newest : ℕ) (net : List Change)
     → KeepsStates states horizon newest vs → KeepsStates states horizon (suc newest) (after_net (suc newest) net vs)
 keeps_next states horizon newest net vs is held keeps = record {
   kept = let k = keeps.kept in omega arith;
-  each = one_more_state states horizon newest vs keeps (subst IsState is.leads (changes_state net (states newest) (keeps.each newest keeps.kept (omega arith))));
-  says = says_written states horizon newest net vs keeps.kept (sym is.leads) keeps.says;
+  each = one_more_state states horizon newest vs keeps (subst IsState is.transition (changes_state net (states newest) (keeps.each newest keeps.kept (omega arith))));
+  says = says_written states horizon newest net vs keeps.kept (sym is.transition) keeps.says;
   clean = clean_net horizon (suc newest) (let k = keeps.kept in omega arith) net vs keeps.clean;
   versions = written_versions (suc newest) net vs keeps.versions (net_is_writable states horizon newest net vs (states (suc newest)) keeps.kept keeps.says is) held;
 }
 
 pub keeps_written : (net : List Change) (stamp : ℕ) (vs : List Versioned) → AllByRecursion IsStorable (after_net stamp net vs) → KeepsWritten net stamp vs (after_net stamp net vs)
-keeps_written net zero vs held states horizon newest keeps leads = absurd (let late = leads.later in omega arith)
-keeps_written net (suc last) vs held states horizon newest keeps leads =
-    let late = leads.later in
-    let before = keeps_to states horizon newest last vs (omega arith) (λ t low high. leads.quiet t low (omega arith)) keeps in
-    let same : states last ≡ states newest = leads.quiet last (omega arith) (omega arith) in
-    keeps_next states horizon last net vs (subst (λ s. IsNet s net (states (suc last))) (sym same) leads.changes) held before
+keeps_written net zero vs held states horizon newest keeps transition = absurd (let late = transition.later in omega arith)
+keeps_written net (suc last) vs held states horizon newest keeps transition =
+    let late = transition.later in
+    let before = keeps_to states horizon newest last vs (omega arith) (λ t low high. transition.quiet t low (omega arith)) keeps in
+    let same : states last ≡ states newest = transition.quiet last (omega arith) (omega arith) in
+    keeps_next states horizon last net vs (subst (λ s. IsNet s net (states (suc last))) (sym same) transition.changes) held before
 
 -- ---- a purge
 

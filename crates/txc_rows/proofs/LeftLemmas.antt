@@ -13,11 +13,11 @@ use Rattle.sqlite.specs.Edit.{id_in}
 use Rattle.sqlite.specs.State.{State, Shown}
 use Rattle.sqlite.proofs.Callers.{reads_as}
 use Rattle.sqlite_trees.proofs.ListLemmas.{map-map, filter-map, all_of, all_weaker, all-map, all-permutation}
-use Rattle.txc_rows.specs.Holdable.{IsStorable}
+use Rattle.txc_rows.specs.StorableVersions.{IsStorable}
 use Rattle.txc_rows.specs.declared.placed.Placed.{Placed}
 use Rattle.txc_rows.specs.Texts.{latest_schema}
-use Rattle.txc_rows.specs.Stored.{stored, cells_of, placed_in, placed_all, placed_from, IsStored, AreVersionRows, AreCells}
-use Rattle.txc_rows.specs.Kept.{IsPlacedRow}
+use Rattle.txc_rows.specs.StoredVersion.{stored, cells_of, placed_in, placed_all, placed_from, IsStored, AreVersionRows, AreCells}
+use Rattle.txc_rows.specs.LatestTable.{IsPlacedRow}
 use Rattle.txc_rows.proofs.Commands.{alone, whole, endless, cells_project, cells_names, AreCellsOf}
 use Rattle.txc_rows.proofs.StoredRows.{select_stored, cells_again, asked, answered, IsPage}
 

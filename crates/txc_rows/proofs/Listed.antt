@@ -8,8 +8,8 @@ use Rattle.txc_rows.specs.declared.version.Versioned.{Versioned}
 use Rattle.txc_rows.specs.declared.query.Query.{Query}
 use Rattle.txc_rows.specs.States.{query_table}
 use Rattle.txc_rows.specs.Versions.{suits}
-use Rattle.txc_rows.specs.Stored.{version_shown}
-use Rattle.txc_rows.specs.Kept.{IsListing}
+use Rattle.txc_rows.specs.StoredVersion.{version_shown}
+use Rattle.txc_rows.specs.LatestTable.{IsListing}
 
 module _ (q : Query) (most : ℕ) (vs : List Versioned) (rows : List Row) (listing : IsListing q (most + 1) vs rows) where
   abbrev shown_versions : List Versioned

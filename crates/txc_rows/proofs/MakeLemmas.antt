@@ -11,8 +11,8 @@ use Rattle.sqlite.proofs.Callers.{statement_of, runs_as}
 use Rattle.sqlite_trees.specs.declared.memory.MemStore.{MemStore}
 use Rattle.txc_rows.specs.declared.texts.TheConstants.{MAKE_LATEST, DROP_LATEST}
 use Rattle.txc_rows.specs.Texts.{no_schema, latest_table, latest_schema}
-use Rattle.txc_rows.specs.Stored.{placed_all}
-use Rattle.txc_rows.specs.Kept.{HasNoTable, HasTable, HasLatest}
+use Rattle.txc_rows.specs.StoredVersion.{placed_all}
+use Rattle.txc_rows.specs.LatestTable.{HasNoTable, HasTable, HasLatest}
 use Rattle.txc_rows.proofs.Commands.{make_latest_is, drop_latest_is}
 use Rattle.txc_rows.proofs.Steps.{creates, went, same_value}
 

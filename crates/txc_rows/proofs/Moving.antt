@@ -10,11 +10,11 @@ use Rattle.txc_stamp.specs.declared.stamp.TheConstants.{MOST_STAMP}
 use Rattle.txc_rows.specs.Values.{RowValue, IsRow}
 use Rattle.txc_rows.specs.States.{is_at}
 use Rattle.txc_rows.specs.Versions.{removed, put}
-use Rattle.txc_rows.specs.Holdable.{IsStorable}
+use Rattle.txc_rows.specs.StorableVersions.{IsStorable}
 use Rattle.txc_rows.specs.declared.placed.Placed.{Placed}
 use Rattle.txc_rows.specs.declared.version.Versioned.{Versioned}
 use Rattle.txc_rows.specs.Placed.{version_of, versions_by_place, has_key, closed_placed, new_placed, put_latest, put_replaced, HaveOwnKeys, IsOneCurrent, AreBelow, AreWellPlaced, AreAll}
-use Rattle.txc_rows.specs.Slotted.{Moves}
+use Rattle.txc_rows.specs.VersionSlots.{Moves}
 use Rattle.txc_rows.proofs.PlaceLemmas.{pairs_permuted, by_place_same, own_places_permuted}
 use Rattle.txc_rows.proofs.PutLemmas.{parts, one_turned, key_turned, ended_below, put_written, put_apart}
 use Rattle.txc_rows.proofs.ChangeSteps.{removed_all}

@@ -10,12 +10,12 @@ use Rattle.txc_rows.specs.declared.placed.Placed.{Placed}
 use Rattle.txc_rows.specs.declared.query.Query.{Query}
 use Rattle.txc_rows.specs.declared.query.Query.TheVariants.{ById}
 use Rattle.txc_rows.specs.declared.version.Versioned.{Versioned}
-use Rattle.txc_rows.specs.Holdable.{IsStorable}
+use Rattle.txc_rows.specs.StorableVersions.{IsStorable}
 use Rattle.txc_rows.specs.Versions.{suits, version_cmp}
-use Rattle.txc_rows.specs.Found.{IsNearer, IsNeedless, FindsAround}
+use Rattle.txc_rows.specs.FoundVersions.{IsNearer, IsNeedless, FindsAround}
 use Rattle.txc_rows.specs.Placed.{left_from}
-use Rattle.txc_rows.specs.Indexed.{stamp_or_zero, death_of, dead_between, DiedFirst, DiedLast}
-use Rattle.txc_rows.specs.Kept.{versions_of, IsFinding, AddsAround}
+use Rattle.txc_rows.specs.ReplacedIndex.{stamp_or_zero, death_of, dead_between, DiedFirst, DiedLast}
+use Rattle.txc_rows.specs.LatestTable.{versions_of, IsFinding, AddsAround}
 use Rattle.txc_rows.proofs.Members.{is_in, contains_it, in_left, in_right, both_true}
 use Rattle.txc_rows.proofs.FindLemmas.{asked, asked_append, all_asked}
 use Rattle.txc_rows.proofs.DeadLemmas.{all_between, left_dead}

@@ -7,8 +7,8 @@ use Rattle.sqlite_trees.proofs.ListLemmas.{all_weaker, all-filter}
 use Rattle.txc_rows.specs.declared.query.Change.{Change}
 use Rattle.txc_rows.specs.declared.query.Change.TheVariants.{Put, Remove}
 use Rattle.txc_rows.specs.States.{RowValue, State, IsState, is_at, row_at, after_change, after_changes}
-use Rattle.txc_rows.specs.Net.{change_table, change_id, same_key, key_before, changes_state, placed, settled, net_changes, KeysRise, IsNet}
-use Rattle.txc_rows.specs.Laws.{NetLeads, NetIsDifference, is_change_of}
+use Rattle.txc_rows.specs.Net.{change_table, change_id, same_key, key_before, changes_state, placed, settled, net_changes, KeysAscend, IsNet}
+use Rattle.txc_rows.specs.Laws.{NetTransition, NetIsDifference, is_change_of}
 use Rattle.txc_rows.proofs.Members.{IsIn, bool_cases, both_true, and_true, not_true_is, any_there, any_found}
 use Rattle.txc_rows.proofs.ChangeLemmas.{is_of, Makes, made_there, other_there, from_change, made_of}
 use Rattle.txc_rows.proofs.Rising.{lt_trans, changes_state as changed_state, same_rows}
@@ -112,23 +112,23 @@ over_placed d c (x ∷ xs) e h = go (same_key c x) (key_before c x) (over_placed
     go false true on = (e, h)
     go false false on = (h.0, on)
 
-placed_rises : (c : Change) (ds : List Change) → KeysRise ds → KeysRise (placed c ds)
+placed_rises : (c : Change) (ds : List Change) → KeysAscend ds → KeysAscend (placed c ds)
 placed_rises c [] h = (tt, tt)
 placed_rises c (d ∷ ds) h = go (same_key c d) refl (key_before c d) refl (placed_rises c ds h.1)
   where
-    go : (a : Bool) → same_key c d ≡ a → (b : Bool) → key_before c d ≡ b → KeysRise (placed c ds) → KeysRise (cond a (d ∷ ds) (cond b (c ∷ (d ∷ ds)) (d ∷ placed c ds)))
+    go : (a : Bool) → same_key c d ≡ a → (b : Bool) → key_before c d ≡ b → KeysAscend (placed c ds) → KeysAscend (cond a (d ∷ ds) (cond b (c ∷ (d ∷ ds)) (d ∷ placed c ds)))
     go true e b f on = h
     go false e true f on = ((f, over_trans c d ds f h.0), h)
     go false e false f on = (over_placed d c ds (key_cases (change_table c) (change_id c) (change_table d) (change_id d) e f) h.0, on)
 
-settled_rises : (cs : List Change) → KeysRise (settled cs)
+settled_rises : (cs : List Change) → KeysAscend (settled cs)
 settled_rises [] = tt
 settled_rises (c ∷ cs) = placed_rises c (settled cs) (settled_rises cs)
 
 module _ (p : Change → Bool) where
-  kept_rises : (ds : List Change) → KeysRise ds → KeysRise (filter p ds)
+  kept_rises : (ds : List Change) → KeysAscend ds → KeysAscend (filter p ds)
   kept_rises [] h = tt
-  kept_rises (d ∷ ds) h = let rest = kept_rises ds h.1 in elim (p d) as (λ b. KeysRise (cond b (d ∷ filter p ds) (filter p ds))) [ true ↦ (all-filter (λ x. key_before d x ≡ true) p ds h.0, rest) | false ↦ rest ]
+  kept_rises (d ∷ ds) h = let rest = kept_rises ds h.1 in elim (p d) as (λ b. KeysAscend (cond b (d ∷ filter p ds) (filter p ds))) [ true ↦ (all-filter (λ x. key_before d x ≡ true) p ds h.0, rest) | false ↦ rest ]
 
   each_kept : (ds : List Change) → list_all p (filter p ds) ≡ true
   each_kept [] = refl
@@ -163,7 +163,7 @@ plain : (c : Change) (o : Option Change) → or_else o false c ≡ o
 plain c None = refl
 plain c (Some d) = refl
 
-kept_alike : (s : State) → IsState s → (ds : List Change) (r : RowValue) → KeysRise ds → Alike (last_of (filter (changes_state s) ds) r) (last_of ds r) r s
+kept_alike : (s : State) → IsState s → (ds : List Change) (r : RowValue) → KeysAscend ds → Alike (last_of (filter (changes_state s) ds) r) (last_of ds r) r s
 kept_alike s h [] r rise = record { to = λ m. m; back = λ m. m }
 kept_alike s h (c ∷ cs) r rise = go (is_of c r) refl (changes_state s c) refl (kept_alike s h cs r rise.1)
   where
@@ -174,11 +174,11 @@ kept_alike s h (c ∷ cs) r rise = go (is_of c r) refl (changes_state s c) refl 
     go false at true e on = rw (at, plain c (last_of cs r), plain c (last_of (filter (changes_state s) cs) r)) on
     go false at false e on = rw (at, plain c (last_of cs r)) on
 
-pub net_leads : NetLeads
+pub net_leads : NetTransition
 net_leads s cs h = record {
   rising = kept_rises (changes_state s) (settled cs) (settled_rises cs);
   each = each_kept (changes_state s) (settled cs);
-  leads = same_rows (after_changes (net_changes s cs) s) (after_changes cs s) (changed_state (net_changes s cs) s h) (changed_state cs s h) to back;
+  transition = same_rows (after_changes (net_changes s cs) s) (after_changes cs s) (changed_state (net_changes s cs) s h) (changed_state cs s h) to back;
 }
   where
     alike : (r : RowValue) → Alike (last_of (net_changes s cs) r) (last_of (settled cs) r) r s
@@ -198,7 +198,7 @@ each_in p (d ∷ ds) c all (inl same) = ap p same ∙ (both_true (p d) (list_all
 each_in p (d ∷ ds) c all (inr later) = each_in p ds c (both_true (p d) (list_all p ds) all).1 later
 
 -- the last change of a net's key is the one
-pub last_is : (net : List Change) (c : Change) (r : RowValue) → KeysRise net → IsIn c net → is_of c r ≡ true → last_of net r ≡ Some c
+pub last_is : (net : List Change) (c : Change) (r : RowValue) → KeysAscend net → IsIn c net → is_of c r ≡ true → last_of net r ≡ Some c
 last_is [] c r rise h at = absurd h
 last_is (d ∷ ds) c r rise (inl same) at = let here : is_of d r ≡ true = ap (λ (x : Change). is_of x r) (sym same) ∙ at in rw (none_of d ds r rise.0 here, here) (ap (λ (x : Change). Some x) (sym same))
 last_is (d ∷ ds) c r rise (inr later) at = ap (λ (o : Option Change). or_else o (is_of d r) d) (last_is ds c r rise.1 later at)
@@ -222,10 +222,10 @@ net_is_difference s cs t i h = (differs, changed)
     is = net_leads s cs h
 
     into : (r : RowValue) → Meets (last_of (net_changes s cs) r) r s → IsIn r (after_changes cs s)
-    into r m = subst (IsIn r) is.leads (to_changes (net_changes s cs) r s m)
+    into r m = subst (IsIn r) is.transition (to_changes (net_changes s cs) r s m)
 
     out : (r : RowValue) → IsIn r (after_changes cs s) → Meets (last_of (net_changes s cs) r) r s
-    out r k = from_changes (net_changes s cs) r s (subst (IsIn r) (sym is.leads) k)
+    out r k = from_changes (net_changes s cs) r s (subst (IsIn r) (sym is.transition) k)
 
     state : IsState (after_changes cs s)
     state = changed_state cs s h

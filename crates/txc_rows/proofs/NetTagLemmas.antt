@@ -6,7 +6,7 @@ use Rattle.txc_rows.specs.declared.query.Change.{Change}
 use Rattle.txc_rows.specs.declared.query.Change.TheVariants.{Put, Remove}
 use Rattle.txc_rows.specs.States.{RowValue, State, row_before, IsState}
 use Rattle.txc_rows.specs.RowTags.{has_row, lost, tags_of_row}
-use Rattle.txc_rows.specs.Net.{changes_state, KeysRise, puts_of, rows_at}
+use Rattle.txc_rows.specs.Net.{changes_state, KeysAscend, puts_of, rows_at}
 use Rattle.txc_rows.specs.Laws.{NetTags}
 use Rattle.txc_rows.proofs.Members.{IsIn, bool_cases, not_true_is, in_filter, from_filter}
 use Rattle.txc_rows.proofs.RowTests.{has_row_in, has_there}
@@ -19,7 +19,7 @@ under_puts row [] h = tt
 under_puts row (Put new ∷ cs) h = (h.0, under_puts row cs h.1)
 under_puts row (Remove t i ∷ cs) h = under_puts row cs h.1
 
-puts_state : (net : List Change) → KeysRise net → IsState (puts_of net)
+puts_state : (net : List Change) → KeysAscend net → IsState (puts_of net)
 puts_state [] h = tt
 puts_state (Put row ∷ cs) h = (under_puts row cs h.0, puts_state cs h.1)
 puts_state (Remove t i ∷ cs) h = puts_state cs h.1
@@ -70,13 +70,13 @@ net_tags old new net h is =
     ap (λ (rs : List RowValue). set_of (flat_map tags_of_row rs)) (λ i. before i ++ after i)
   where
     state : IsState new
-    state = subst IsState is.leads (changed_state net old h)
+    state = subst IsState is.transition (changed_state net old h)
 
     into : (r : RowValue) → Meets (last_of net r) r old → IsIn r new
-    into r m = subst (λ (s : State). IsIn r s) is.leads (to_changes net r old m)
+    into r m = subst (λ (s : State). IsIn r s) is.transition (to_changes net r old m)
 
     out : (r : RowValue) → IsIn r new → Meets (last_of net r) r old
-    out r k = from_changes net r old (subst (λ (s : State). IsIn r s) (sym is.leads) k)
+    out r k = from_changes net r old (subst (λ (s : State). IsIn r s) (sym is.transition) k)
 
     -- a put of the net isn't in the old state
     is_new : (c : Change) (r : RowValue) → IsIn c net → Makes c r → IsIn r old → ⊥

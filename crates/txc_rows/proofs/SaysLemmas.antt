@@ -13,7 +13,7 @@ use Rattle.txc_rows.specs.States.{RowValue, State, IsState, row_before, is_at, q
 use Rattle.txc_rows.proofs.Rising.{filter_state, same_rows}
 use Rattle.txc_rows.specs.declared.version.Versioned.{Versioned}
 use Rattle.txc_rows.specs.Versions.{lives_at, is_visible, row_of, visible_rows, shown_at, closed, removed, put, after_write, after_net, died_by, purged}
-use Rattle.txc_rows.specs.Says.{VersionsSay, AreUpTo, IdsRise}
+use Rattle.txc_rows.specs.VersionsAndStates.{VersionsSay, AreUpTo, IdsAscend}
 use Rattle.txc_rows.specs.Laws.{SaysNothing, SaysAgree, SaysWritten, SaysQuiet, SaysPurged, SaysAnswer}
 use Rattle.txc_rows.proofs.ChangeLemmas.{made_there, other_there, from_change}
 use Rattle.txc_rows.proofs.Members.{IsIn, bool_cases, both_true, and_true, not_true_is, is_in, contains_it, in_filter, from_filter, in_left, in_right, from_append, in_map, from_map, all_in}
@@ -238,7 +238,7 @@ of_its_table (Range table first last) r e = eqb-true _ _ (both_true (r.table == 
 by_id : (t i u j : ℕ) → t ≡ u → i < j → (nat_lt t u || ((t == u) && nat_lt i j)) ≡ true
 by_id t i u j e low = grind (arith, nat_tests)
 
-risen : (q : Query) (rs : List RowValue) → ((r : RowValue) → IsIn r rs → matches q r ≡ true) → IdsRise rs → IsState rs
+risen : (q : Query) (rs : List RowValue) → ((r : RowValue) → IsIn r rs → matches q r ≡ true) → IdsAscend rs → IsState rs
 risen q [] fit rise = tt
 risen q (r ∷ rs) fit rise = (under rs (λ s k. fit s (inr k)) rise.0, risen q rs (λ s k. fit s (inr k)) rise.1)
   where
@@ -248,7 +248,7 @@ risen q (r ∷ rs) fit rise = (under rs (λ s k. fit s (inr k)) rise.0, risen q 
 
 -- those of the versions that match and are visible are enough
 pub says_seen : (q : Query) (t : ℕ) (vs found : List Versioned) (s : State) → IsState s → VersionsSay t vs s → ((v : Versioned) → Contains found v → Contains vs v)
-    → ((v : Versioned) → Contains vs v → matches q v.row ≡ true → is_visible t v ≡ true → Contains found v) → IdsRise (shown_at q t found) → shown_at q t found ≡ answer q s
+    → ((v : Versioned) → Contains vs v → matches q v.row ≡ true → is_visible t v ≡ true → Contains found v) → IdsAscend (shown_at q t found) → shown_at q t found ≡ answer q s
 says_seen q t vs found s st says from_found to_found rise =
     same_rows (shown_at q t found) (answer q s) (risen q (shown_at q t found) fits rise) (filter_state (matches q) s st) to back
   where
@@ -292,9 +292,9 @@ pub newest_or : (t n : ℕ) → t ≤ suc n → (t ≡ suc n) ⊎ (t ≤ n)
 newest_or t n h = elim (bool_cases (nat_le t n)) [ inl low ↦ inr (leb-true t n low) | inr high ↦ inl (let above = leb-false t n high in omega arith) ]
 
 pub says_written : SaysWritten
-says_written states horizon newest net vs kept leads says = record {
+says_written states horizon newest net vs kept transition says = record {
   kept = λ t low high. elim (newest_or t newest high) [
-    | inl now ↦ rw (now, leads) new.0
+    | inl now ↦ rw (now, transition) new.0
     | inr then ↦ before t (suc newest) net vs (states t) (omega arith) (says.kept t low then)
   ];
   upto = new.1;

@@ -13,19 +13,19 @@ use Rattle.std.proofs.lemmas.List.{map-append, length-map}
 use Rattle.std.proofs.lemmas.List.Elements.{filter-append}
 use Rattle.std.proofs.lemmas.List.Sorted.{IsPermutation-trans, IsPermutation-sym, IsPermutation-map, IsPermutation-append_right}
 use Rattle.sqlite_trees.proofs.ListLemmas.{filter-map, filter_all, filter_none, filter_same, all_of, all_both, all_weaker, all-append, all-filter, all-map, all-permutation, flat_map-map, flat_map_same, IsPermutation-filter, IsPermutation-flat_map}
-use Rattle.txc_slots.specs.declared.slots.SlotKey.{SlotKey}
-use Rattle.txc_slots.specs.Slots.{key_cmp, is_key, held_at, held, Changes}
-use Rattle.txc_slots.proofs.SlotLemmas.{key_exact, key_itself, held_found}
+use Rattle.txc_base_slots.specs.declared.slots.SlotKey.{SlotKey}
+use Rattle.txc_base_slots.specs.Slots.{key_cmp, is_key, held_at, held, Changes}
+use Rattle.txc_base_slots.proofs.SlotLemmas.{key_exact, key_itself, held_found}
 use Rattle.txc_rows.specs.States.{is_at}
-use Rattle.txc_rows.specs.Holdable.{IsStorable}
+use Rattle.txc_rows.specs.StorableVersions.{IsStorable}
 use Rattle.txc_rows.specs.declared.placed.Placed.{Placed}
 use Rattle.txc_rows.specs.declared.query.Query.{Query}
 use Rattle.txc_rows.specs.declared.query.Query.TheVariants.{ById, ByGroup, All, Range}
 use Rattle.txc_rows.specs.declared.version.Versioned.{Versioned}
 use Rattle.txc_rows.specs.Versions.{suits}
 use Rattle.txc_rows.specs.Placed.{version_of, is_left, left_from, placed_left, closed_placed}
-use Rattle.txc_rows.specs.Kept.{IsFinding}
-use Rattle.txc_rows.specs.Slotted.{row_key, group_key, row_slot, group_slot, in_slots, row_between, in_group_of, AreCurrent, Moves}
+use Rattle.txc_rows.specs.LatestTable.{IsFinding}
+use Rattle.txc_rows.specs.VersionSlots.{row_key, group_key, row_slot, group_slot, in_slots, row_between, in_group_of, AreCurrent, Moves}
 use Rattle.txc_rows.proofs.Members.{both_true, passing}
 use Rattle.txc_rows.proofs.PutLemmas.{all_front, all_back}
 use Rattle.txc_rows.proofs.IndexLemmas.{keys_between, between_one}

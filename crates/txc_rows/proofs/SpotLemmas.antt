@@ -6,7 +6,7 @@ use Rattle.std.proofs.lemmas.List.Elements.{filter-append}
 use Rattle.sqlite_trees.proofs.ListLemmas.{all_weaker, all-append}
 use Rattle.txc_rows.specs.declared.replaced.Spot.{Spot}
 use Rattle.txc_rows.specs.declared.replaced.Deaths.{Deaths}
-use Rattle.txc_rows.specs.Indexed.{dies_within, DeathsRise, IsEarliest, IsLatest}
+use Rattle.txc_rows.specs.ReplacedIndex.{dies_within, DeathsAscend, IsEarliest, IsLatest}
 use Rattle.txc_rows.proofs.Members.{is_in, contains_it, in_left, in_right}
 
 module _ (d : Deaths) (s : Spot) where
@@ -34,10 +34,10 @@ module _ (d : Deaths) (s : Spot) where
   back_on ss on = filter-append (dies_within d) ss (s ∷ []) ∙ ap (λ ts. filter (dies_within d) ss ++ ts) (one_on on)
 
 -- the first is the earliest where deaths rise
-pub first_earliest : (s : Spot) (ss : List Spot) → DeathsRise (s ∷ ss) → IsEarliest (s ∷ ss) s
+pub first_earliest : (s : Spot) (ss : List Spot) → DeathsAscend (s ∷ ss) → IsEarliest (s ∷ ss) s
 first_earliest s ss rise = record { there = contains_it (s ∷ ss) s (inl refl); least = (omega arith, rise.0) }
 
-all_to_last : (s : Spot) (ss : List Spot) → DeathsRise (ss ++ s ∷ []) → AllByRecursion (λ t. t.death ≤ s.death) ss
+all_to_last : (s : Spot) (ss : List Spot) → DeathsAscend (ss ++ s ∷ []) → AllByRecursion (λ t. t.death ≤ s.death) ss
 all_to_last s [] rise = tt
 all_to_last s (t ∷ ss) rise = (last_of_all ss rise.0, all_to_last s ss rise.1)
   where
@@ -56,7 +56,7 @@ pub latest_over : (l s : Spot) (ss : List Spot) → IsLatest ss l → l.death �
 latest_over l s ss is low = latest_new s ss (all_weaker (λ t. t.death ≤ l.death) (λ t. t.death ≤ s.death) (λ t le. omega (arith, le, low)) ss is.greatest)
 
 -- the last is the latest where deaths rise
-pub last_latest : (s : Spot) (ss : List Spot) → DeathsRise (ss ++ s ∷ []) → IsLatest (ss ++ s ∷ []) s
+pub last_latest : (s : Spot) (ss : List Spot) → DeathsAscend (ss ++ s ∷ []) → IsLatest (ss ++ s ∷ []) s
 last_latest s ss rise = latest_new s ss (all_to_last s ss rise)
 
 -- the later of what was seen and one more

@@ -27,7 +27,7 @@ use Rattle.sqlite.specs.State.{State, Writes, Executes}
 use Rattle.sqlite.proofs.Callers.{command_of, statement_of, runs_as, one_step, IsPlain}
 use Rattle.txc_rows.specs.declared.placed.Placed.{Placed}
 use Rattle.txc_rows.specs.Texts.{latest_table, latest_schema}
-use Rattle.txc_rows.specs.Stored.{stored, cells_of}
+use Rattle.txc_rows.specs.StoredVersion.{stored, cells_of}
 
 either : (b : Bool) (x : Value) → cond b x x ≡ x
 either true x = refl

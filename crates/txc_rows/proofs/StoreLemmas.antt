@@ -5,10 +5,10 @@ use Rattle.std.specs.List.Sorted.{IsPermutation}
 use Rattle.sqlite.specs.declared.error.Error.{Error}
 use Rattle.txc_rows.specs.declared.query.Change.{Change}
 use Rattle.txc_rows.specs.Versions.{after_net, purged}
-use Rattle.txc_rows.specs.Holdable.{IsStorable}
+use Rattle.txc_rows.specs.StorableVersions.{IsStorable}
 use Rattle.txc_rows.specs.declared.placed.Placed.{Placed}
 use Rattle.txc_rows.specs.Placed.{left_from, placed_left, without_front_dead, AreAll, AreSwept}
-use Rattle.txc_rows.specs.Kept.{versions_of, IsRoom, IsStore}
+use Rattle.txc_rows.specs.LatestTable.{versions_of, IsRoom, IsStore}
 use Rattle.txc_rows.proofs.SweepLemmas.{both_below, both_apart, left_alone, none_hidden, dropped_each, dropped_apart, dropped_same, purged_left}
 use Rattle.txc_rows.proofs.ViewLemmas.{written_view, view_each}
 

@@ -26,7 +26,7 @@ use Rattle.txc_rows.specs.declared.placed.Placed.{Placed}
 use Rattle.txc_rows.specs.Placed.{lasts_to, is_left, is_row_left, is_touched, has_key}
 use Rattle.txc_rows.specs.declared.query.Query.{Query}
 use Rattle.txc_rows.specs.declared.query.Query.TheVariants.{ById, ByGroup, All, Range}
-use Rattle.txc_rows.specs.Stored.{stored, cells_of, number, death, IsStored, death_in, placed_in, placed_from, queried_columns, version_shown}
+use Rattle.txc_rows.specs.StoredVersion.{stored, cells_of, number, death, IsStored, death_in, placed_in, placed_from, queried_columns, version_shown}
 use Rattle.txc_rows.proofs.Commands.{close_filter, key_filter, left_filter, touched_filter, placed_filter, table_filter, row_filter, group_filter, range_filter, whole}
 
 pub int_cmp-pos : (a b : ℕ) → int_cmp (pos a) (pos b) ≡ nat_cmp a b

@@ -9,7 +9,7 @@ use Rattle.txc_rows.specs.declared.query.Change.TheVariants.{Put, Remove}
 use Rattle.txc_rows.specs.Values.{RowValue, IsRow}
 use Rattle.txc_rows.specs.States.{is_at}
 use Rattle.txc_rows.specs.Versions.{is_current, closed, removed, put, after_write}
-use Rattle.txc_rows.specs.Holdable.{IsStorable, HasEnded, AreHeld, IsWritable}
+use Rattle.txc_rows.specs.StorableVersions.{IsStorable, HasEnded, AreHeld, IsWritable}
 use Rattle.txc_rows.proofs.Members.{both_true}
 use Rattle.txc_rows.proofs.Pairs.{pairs_mapped, pairs_pushed, pairs_left}
 

@@ -10,11 +10,11 @@ use Rattle.sqlite.specs.Steps.{over_memory, FailsToCommit}
 use Rattle.sqlite_trees.specs.declared.memory.MemStore.{MemStore}
 use Rattle.sqlite.specs.Order.{Row, column}
 use Rattle.sqlite.specs.Values.{bound_value}
-use Rattle.txc_rows.specs.Holdable.{IsStorable}
+use Rattle.txc_rows.specs.StorableVersions.{IsStorable}
 use Rattle.txc_rows.specs.declared.placed.Placed.{Placed}
 use Rattle.txc_rows.specs.Placed.{is_left, placed_left}
-use Rattle.txc_rows.specs.Stored.{AreCells, death, placed_from}
-use Rattle.txc_rows.specs.Kept.{latest_in, HasLatest, IsKept, IsCall, IsSame}
+use Rattle.txc_rows.specs.StoredVersion.{AreCells, death, placed_from}
+use Rattle.txc_rows.specs.LatestTable.{latest_in, HasLatest, IsKept, IsCall, IsSame}
 use Rattle.txc_rows.proofs.HeldLemmas.{AreStorable, latest_by, undone_call, refused_call, committed_kept, ended_call}
 
 pub same_then : (a b c : Held MemStore) → IsSame a b → IsSame b c → IsSame a c

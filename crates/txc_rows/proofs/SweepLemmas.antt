@@ -14,7 +14,7 @@ use Rattle.txc_rows.specs.declared.query.Change.TheVariants.{Put, Remove}
 use Rattle.txc_rows.specs.Values.{RowValue}
 use Rattle.txc_rows.specs.States.{is_at}
 use Rattle.txc_rows.specs.Versions.{is_current, has_died_by, died_by, closed, removed, put, after_net, purged}
-use Rattle.txc_rows.specs.Holdable.{IsStorable}
+use Rattle.txc_rows.specs.StorableVersions.{IsStorable}
 use Rattle.txc_rows.specs.declared.placed.Placed.{Placed}
 use Rattle.txc_rows.specs.Placed.{version_of, by_place, versions_by_place, lasts_to, is_left, left_from, placed_left, without_front_dead, has_key, HaveOwnPlaces, AreBelow, IsOneCurrent, AreWellPlaced, AreSwept}
 use Rattle.txc_rows.proofs.Members.{bool_cases, filtered_both}

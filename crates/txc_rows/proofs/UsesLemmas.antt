@@ -8,9 +8,9 @@ use Rattle.txc_rows.specs.declared.query.Change.{Change}
 use Rattle.txc_rows.specs.States.{State, IsState, after_changes}
 use Rattle.txc_rows.specs.Net.{IsNet}
 use Rattle.txc_rows.specs.Versions.{after_net, after_write, purged, has_died_by}
-use Rattle.txc_rows.specs.Holdable.{AreHeld, IsWritable}
-use Rattle.txc_rows.specs.Keeping.{KeepsStates, Leads}
-use Rattle.txc_rows.specs.Uses.{Use, write, purge, versions_after_use, use_at, horizon_after_use, AreUsesInOrder, UsesAnswer, KeepsNothing, KeepsAgreed, KeepsQuiet}
+use Rattle.txc_rows.specs.StorableVersions.{AreHeld, IsWritable}
+use Rattle.txc_rows.specs.KeptStates.{KeepsStates, StateTransition}
+use Rattle.txc_rows.specs.StoreHistory.{Use, write, purge, versions_after_use, use_at, horizon_after_use, AreUsesInOrder, UsesAnswer, KeepsNothing, KeepsAgreed, KeepsQuiet}
 use Rattle.txc_rows.proofs.SaysLemmas.{says_agree}
 use Rattle.txc_rows.proofs.StoredVersions.{held_write, held_kept}
 use Rattle.txc_rows.proofs.KeepingLemmas.{keeps_nothing, keeps_quiet, keeps_to, keeps_written, keeps_purged, found_answers}
@@ -50,7 +50,7 @@ keeps_uses : (uses : List Use) (states : ℕ → State) (horizon newest : ℕ) (
     → AreUsesInOrder (states newest) horizon newest uses → KeptAfter (λ t. fold (use_at t) (states t) uses) (fold horizon_after_use horizon uses) (fold versions_after_use vs uses)
 keeps_uses [] states horizon newest vs keeps stays held rising = record { last = newest; keeps = keeps; stays = stays }
 keeps_uses (write net stamp ∷ uses) states horizon newest vs keeps stays held rising =
-    keeps_uses uses next horizon stamp (after_net stamp net vs) (keeps_written net stamp vs written.each next horizon newest before leads)
+    keeps_uses uses next horizon stamp (after_net stamp net vs) (keeps_written net stamp vs written.each next horizon newest before transition)
     (λ t low. rw (le-leb stamp t low, le-leb stamp stamp (omega arith)) (ap (after_changes net) (stays t (omega arith) ∙ sym (stays stamp (omega arith))))) written (subst (λ s. AreUsesInOrder s horizon stamp uses) (sym changed) rising.3)
   where
     next : ℕ → State
@@ -71,8 +71,8 @@ keeps_uses (write net stamp ∷ uses) states horizon newest vs keeps stays held 
     before : KeepsStates next horizon newest vs
     before = agreed_kept states next horizon newest vs (λ t low high. as_before t (omega arith)) keeps
 
-    leads : Leads next newest stamp net
-    leads = record {
+    transition : StateTransition next newest stamp net
+    transition = record {
       later = later;
       quiet = λ t low high. sym (as_before t high) ∙ stays t low ∙ as_before newest later;
       changes = subst (λ s. IsNet s net (next stamp)) (as_before newest later) (subst (IsNet (states newest) net) (sym changed) rising.1);

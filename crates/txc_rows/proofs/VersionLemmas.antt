@@ -8,7 +8,7 @@ use Rattle.txc_rows.specs.declared.query.Change.TheVariants.{Put, Remove}
 use Rattle.txc_rows.specs.Values.{RowValue}
 use Rattle.txc_rows.specs.States.{is_at}
 use Rattle.txc_rows.specs.Versions.{is_current, closed, removed, put, after_net, IsVersion, Follows, Pairwise, AreVersions, IsPutOver, IsChange, AreChanges}
-use Rattle.txc_rows.specs.Holdable.{IsStorable}
+use Rattle.txc_rows.specs.StorableVersions.{IsStorable}
 use Rattle.txc_rows.proofs.Members.{bool_cases}
 use Rattle.txc_rows.proofs.Pairs.{pairs_mapped, pairs_pushed, pairs_left}
 use Rattle.txc_rows.proofs.StoredVersions.{hit_is, hit_from}

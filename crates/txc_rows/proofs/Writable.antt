@@ -9,9 +9,9 @@ use Rattle.txc_rows.specs.declared.query.Change.{Change}
 use Rattle.txc_rows.specs.declared.query.Change.TheVariants.{Put, Remove}
 use Rattle.txc_rows.specs.States.{RowValue, State, is_at}
 use Rattle.txc_rows.specs.RowTags.{has_row}
-use Rattle.txc_rows.specs.Net.{change_table, change_id, key_before, changes_state, KeysRise}
+use Rattle.txc_rows.specs.Net.{change_table, change_id, key_before, changes_state, KeysAscend}
 use Rattle.txc_rows.specs.Versions.{is_visible, closed, removed, IsPutOver, IsChange, AreChanges, after_write}
-use Rattle.txc_rows.specs.Says.{VersionsSay, AreUpTo}
+use Rattle.txc_rows.specs.VersionsAndStates.{VersionsSay, AreUpTo}
 use Rattle.txc_rows.specs.Laws.{NetIsWritable}
 use Rattle.txc_rows.proofs.Members.{IsIn, bool_cases, both_true, not_true_is}
 use Rattle.txc_rows.proofs.RowTests.{has_there}
@@ -60,7 +60,7 @@ key_apart c d before = off (change_table c) (change_id c) (change_table d) (chan
 all_still : (s : ℕ) (c : Change) (vs : List Versioned) (cs : List Change) → AllByRecursion (λ d. key_before c d ≡ true) cs → AllByRecursion (λ d. IsChange s d vs) cs → AllByRecursion (λ d. IsChange s d (after_write s c vs)) cs
 all_still s c vs cs a h = all_both (λ d. key_before c d ≡ true) (λ d. IsChange s d vs) _ (λ d before is. still s c d vs (key_apart c d before) is) cs a h
 
-each_then : (s : ℕ) (net : List Change) (vs : List Versioned) → KeysRise net → AllByRecursion (λ c. IsChange s c vs) net → AreChanges s net vs
+each_then : (s : ℕ) (net : List Change) (vs : List Versioned) → KeysAscend net → AllByRecursion (λ c. IsChange s c vs) net → AreChanges s net vs
 each_then s [] vs rise h = tt
 each_then s (c ∷ cs) vs rise h = (h.0, each_then s cs (after_write s c vs) rise.1 (all_still s c vs cs rise.0 h.1))
 

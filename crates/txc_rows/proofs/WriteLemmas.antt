@@ -28,7 +28,7 @@ use Rattle.txc_rows.specs.States.{is_at}
 use Rattle.txc_rows.specs.Versions.{is_current}
 use Rattle.txc_rows.specs.declared.placed.Placed.{Placed}
 use Rattle.txc_rows.specs.Placed.{has_key, closed_placed, renewed}
-use Rattle.txc_rows.specs.Stored.{stored, cells_of, number, placed_in, placed_all, IsStored, AreVersionRows}
+use Rattle.txc_rows.specs.StoredVersion.{stored, cells_of, number, placed_in, placed_all, IsStored, AreVersionRows}
 use Rattle.txc_rows.specs.declared.texts.TheConstants.{ADD_LATEST, END_VERSION, RENEW_LATEST}
 use Rattle.txc_rows.proofs.Commands.{Means, whole, endless, alone, terms, add_latest_is, close_filter, close_project, close_is, key_filter, renew_project, renew_is}
 use Rattle.txc_rows.specs.Texts.{latest_table, latest_schema}

@@ -11,7 +11,7 @@ use Rattle.txc_rows.specs.States.{RowValue, State, IsState, row_at, matches, ans
 use Rattle.txc_rows.specs.Net.{change_table, change_id, net_changes, IsNet, puts_of, rows_at}
 use Rattle.txc_rows.specs.RowTags.{tags_of_row, tags_between, covers_query}
 use Rattle.txc_rows.specs.Versions.{shown_at, after_net, purged, AreChanges}
-use Rattle.txc_rows.specs.Says.{VersionsSay, SaysStates, IdsRise}
+use Rattle.txc_rows.specs.VersionsAndStates.{VersionsSay, SaysStates, IdsAscend}
 
 -- ---- states
 
@@ -44,8 +44,8 @@ PutsMakeState = (s : State) → IsState s → after_changes (map Put s) [] ≡ s
 -- ---- net changes
 
 -- they lead from the state before all changes to the state after them
-abbrev pub NetLeads : Type 0
-NetLeads = (s : State) (changes : List Change) → IsState s
+abbrev pub NetTransition : Type 0
+NetTransition = (s : State) (changes : List Change) → IsState s
     → IsNet s (net_changes s changes) (after_changes changes s)
 
 -- a table and id has a net change exactly if the states before and after differ there
@@ -107,7 +107,7 @@ abbrev pub SaysAnswer : Type 0
 SaysAnswer = (q : Query) (t : ℕ) (vs found : List Versioned) (s : State) → IsState s → VersionsSay t vs s
     → ((v : Versioned) → Contains found v → Contains vs v)
     → ((v : Versioned) → Contains vs v → matches q v.row ≡ true → Contains found v)
-    → IdsRise (shown_at q t found) → shown_at q t found ≡ answer q s
+    → IdsAscend (shown_at q t found) → shown_at q t found ≡ answer q s
 
 -- net changes of the newest state that versions describe may be written over them at the next stamp
 abbrev pub NetIsWritable : Type 0

@@ -46,15 +46,15 @@ abbrev pub net_changes : State → List Change → List Change
 net_changes s changes = filter (changes_state s) (settled changes)
 
 -- strictly by table and id
-abbrev pub KeysRise : List Change → Type 0
-KeysRise [] = Unit {0}
-KeysRise (c ∷ cs) = AllByRecursion (λ d. key_before c d ≡ true) cs × KeysRise cs
+abbrev pub KeysAscend : List Change → Type 0
+KeysAscend [] = Unit {0}
+KeysAscend (c ∷ cs) = AllByRecursion (λ d. key_before c d ≡ true) cs × KeysAscend cs
 
 -- by table and id, each changing something, and together they lead from the one state to the other
 pub record IsNet (old : State) (net : List Change) (new : State) : Type 0 where
-  pub rising : KeysRise net
+  pub rising : KeysAscend net
   pub each : list_all (changes_state old) net ≡ true
-  pub leads : after_changes net old ≡ new
+  pub transition : after_changes net old ≡ new
 
 -- the rows that a net puts
 abbrev pub puts_of : List Change → List RowValue

@@ -7,7 +7,7 @@ use Rattle.txc_rows.specs.declared.placed.Placed.{Placed}
 use Rattle.txc_rows.specs.declared.version.Versioned.{Versioned}
 use Rattle.txc_rows.specs.Versions.{is_current, closed}
 use Rattle.txc_rows.specs.States.{RowValue, is_at}
-use Rattle.txc_rows.specs.Holdable.{IsStorable}
+use Rattle.txc_rows.specs.StorableVersions.{IsStorable}
 
 -- the version without its place
 abbrev pub version_of : Placed → Versioned

@@ -1,6 +1,6 @@
 //! Counts of the dead rows in the table of last versions.
 
-use crate::writes::Written;
+use crate::writes::WriteCounts;
 
 /// The least number of dead versions in the table after which it is rebuilt.
 const LEAST_ENDED: usize = 1024;
@@ -34,7 +34,7 @@ impl Counts {
     }
 
     /// Counts a commit that was written.
-    pub(crate) fn note(&mut self, written: Written, stamp: u32) {
+    pub(crate) fn note(&mut self, written: WriteCounts, stamp: u32) {
         self.newest = self.newest.max(stamp);
         self.rows = self.rows.wrapping_add(written.added);
         let ended = self.ended.wrapping_add(written.ended);

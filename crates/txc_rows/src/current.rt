@@ -7,15 +7,15 @@ ghost use Rattle.std.specs.Map.{lookup};
 ghost use Rattle.std.specs.List.Sorted.{IsPermutation};
 ghost use Rattle.sqlite.specs.Tree.{IsAscending};
 ghost use Rattle.txc_stamp.specs.declared.stamp.TheConstants.{MOST_STAMP};
-ghost use Rattle.txc_slots.specs.Slots.{is_key, held, undone, Changes};
+ghost use Rattle.txc_base_slots.specs.Slots.{is_key, held, undone, Changes};
 ghost use Rattle.txc_rows.specs.declared.placed.Placed.{Placed as PlacedValue};
 ghost use Rattle.txc_rows.specs.Values.{IsRow};
 ghost use Rattle.txc_rows.specs.States.{is_at};
 ghost use Rattle.txc_rows.specs.Versions.{suits, after_write, after_net};
-ghost use Rattle.txc_rows.specs.Holdable.{IsStorable};
+ghost use Rattle.txc_rows.specs.StorableVersions.{IsStorable};
 ghost use Rattle.txc_rows.specs.Placed.{version_of, new_placed, placed_left, left_from, versions_by_place, IsOneCurrent, AreBelow, AreWellPlaced, AreAll, AddsAtEnd};
-ghost use Rattle.txc_rows.specs.Kept.{IsFinding};
-ghost use Rattle.txc_rows.specs.Slotted.{row_key, group_key, group_slot, in_slots, row_between, in_group_of, AreCurrent, Moves};
+ghost use Rattle.txc_rows.specs.LatestTable.{IsFinding};
+ghost use Rattle.txc_rows.specs.VersionSlots.{row_key, group_key, group_slot, in_slots, row_between, in_group_of, AreCurrent, Moves};
 
 use crate::placed::Placed;
 use crate::query::{Change, Query};
@@ -28,7 +28,7 @@ use sqlite::{Error, ErrorCode};
 use std::alloc::{AllocError, Global};
 use std::collections::BTreeMap;
 use std::marker::Model;
-use txc_slots::{SlotKey, change, drop_vacant, make, settle, take_back, value_at};
+use txc_base_slots::{SlotKey, change, drop_vacant, make, settle, take_back, value_at};
 use txc_stamp::Stamp;
 use txc_tags::Table;
 
@@ -55,7 +55,7 @@ pub(crate) struct Current {
 impl Model for Current {
     ghost use Rattle.std.specs.Prelude.{List};
     ghost use Rattle.txc_rows.specs.declared.placed.Placed.{Placed};
-    ghost use Rattle.txc_rows.specs.Slotted.{in_slots, AreCurrent};
+    ghost use Rattle.txc_rows.specs.VersionSlots.{in_slots, AreCurrent};
 
     ghost Value = { List Placed };
 

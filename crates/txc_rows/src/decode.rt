@@ -5,8 +5,8 @@ ghost use Rattle.std.specs.List.{AllByRecursion};
 ghost use Rattle.txc_stamp.specs.declared.stamp.TheConstants.{MOST_STAMP};
 ghost use Rattle.txc_rows.specs.Values.{AreBytes};
 ghost use Rattle.txc_rows.specs.Placed.{version_of, AreAmong};
-ghost use Rattle.txc_rows.specs.Stored.{placed_from, version_shown};
-ghost use Rattle.txc_rows.specs.Kept.{IsPlacedRow, IsShown};
+ghost use Rattle.txc_rows.specs.StoredVersion.{placed_from, version_shown};
+ghost use Rattle.txc_rows.specs.LatestTable.{IsPlacedRow, IsShown};
 
 use crate::placed::Placed;
 use crate::row::Row;

@@ -6,8 +6,8 @@ ghost use Rattle.std.specs.List.Sorted.{IsPermutation};
 ghost use Rattle.txc_rows.specs.Versions.{suits, after_net};
 ghost use Rattle.txc_rows.specs.declared.query.Query.TheVariants.{ById};
 ghost use Rattle.txc_rows.specs.Placed.{version_of, left_from, placed_left, AreAmong, AreBelow, AreWellPlaced, AreAll};
-ghost use Rattle.txc_rows.specs.Kept.{latest_in, versions_of, IsKept, IsSame, IsFinding};
-ghost use Rattle.txc_rows.specs.Holdable.{IsStorable};
+ghost use Rattle.txc_rows.specs.LatestTable.{latest_in, versions_of, IsKept, IsSame, IsFinding};
+ghost use Rattle.txc_rows.specs.StorableVersions.{IsStorable};
 ghost use Rattle.txc_rows.specs.declared.latest.TheConstants.{MOST_KNOWN};
 ghost use Rattle.txc_rows.specs.declared.store_error.TheConstants.{MOST_MATCHING};
 
@@ -20,7 +20,7 @@ use crate::replaced::Replaced;
 use crate::statements::{create, rebuild};
 use crate::store_error::StoreError;
 use crate::version::Versioned;
-use crate::writes::{Written, write_all};
+use crate::writes::{WriteCounts, write_all};
 use sqlite::{Connection, MemStore};
 use std::alloc::Global;
 use std::marker::Model;
@@ -48,7 +48,7 @@ pub(crate) struct Latest {
 impl Model for Latest {
     ghost use Rattle.std.specs.Prelude.{List};
     ghost use Rattle.txc_rows.specs.declared.placed.Placed.{Placed};
-    ghost use Rattle.txc_rows.specs.Lasting.{latest_of, IsLatestKept};
+    ghost use Rattle.txc_rows.specs.LastVersions.{latest_of, IsLatestKept};
 
     ghost Value = { List Placed };
 
@@ -232,7 +232,7 @@ fn write(
     net: &[Change],
     stamp: Stamp,
     place: u32,
-) -> Result<Written, sqlite::Error>
+) -> Result<WriteCounts, sqlite::Error>
     requires kept { IsKept conn.old }
     requires apart { AreWellPlaced (latest_in conn.old) replaced.old }
     requires below { AreBelow place (latest_in conn.old ++ replaced.old) }
@@ -348,7 +348,7 @@ impl Latest {
         net: &[Change],
         stamp: Stamp,
         place: u32,
-    ) -> Result<Written, sqlite::Error>
+    ) -> Result<WriteCounts, sqlite::Error>
         requires apart { AreWellPlaced self.old replaced.old }
         requires below { AreBelow place (self.old ++ replaced.old) }
         requires room { place + length net.now < 2 ^ 32 }
@@ -362,7 +362,7 @@ impl Latest {
             Kind::Table(conn) => write(conn, replaced, known, alloc, net, stamp, place),
             Kind::Slots(current) => {
                 current.write(replaced, alloc, net, stamp, place)?;
-                Ok(Written::NOTHING)
+                Ok(WriteCounts::NOTHING)
             }
         }
     }

@@ -1,5 +1,5 @@
 //! Lemmas about the definitions. They have no code.
-ghost use Rattle.txc_rows.specs.Laws.{StatesAreRows, ChangedIsState, ChangeUpdates, PutsMakeState, NetLeads, NetIsDifference, NetTags, TagsAreSound, NoTagsBetween, SaysNothing, SaysAgree, SaysWritten, SaysQuiet, SaysPurged, SaysAnswer, NetIsWritable};
+ghost use Rattle.txc_rows.specs.Laws.{StatesAreRows, ChangedIsState, ChangeUpdates, PutsMakeState, NetTransition, NetIsDifference, NetTags, TagsAreSound, NoTagsBetween, SaysNothing, SaysAgree, SaysWritten, SaysQuiet, SaysPurged, SaysAnswer, NetIsWritable};
 
 /// States are finite maps from (table, id) to (group, body), and changes update them.
 pub fn states_are_maps()
@@ -11,7 +11,7 @@ pub fn states_are_maps()
 
 /// The net changes of a list of changes are what differs between the states before and after it.
 pub fn net_changes_are_differences()
-    ensures leads { NetLeads }
+    ensures transition { NetTransition }
     ensures differences { NetIsDifference }
     ensures tags { NetTags }
 {}

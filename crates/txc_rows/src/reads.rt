@@ -3,7 +3,7 @@
 ghost use Rattle.std.specs.Prelude.{IfOk};
 ghost use Rattle.txc_rows.specs.declared.query.Query.TheVariants.{ById, ByGroup, All, Range};
 ghost use Rattle.txc_rows.specs.Placed.{is_row_left};
-ghost use Rattle.txc_rows.specs.Kept.{latest_in, ArePassing, IsKept, IsReading, IsSame};
+ghost use Rattle.txc_rows.specs.LatestTable.{latest_in, ArePassing, IsKept, IsReading, IsSame};
 
 use crate::query::Query;
 use crate::texts::{READ_GROUP, READ_PLACED, READ_RANGE, READ_ROW, READ_TABLE};

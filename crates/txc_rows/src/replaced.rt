@@ -5,10 +5,10 @@ ghost use Rattle.std.specs.List.{AllByRecursion, slice_get};
 ghost use Rattle.std.specs.List.Sorted.{IsPermutation};
 ghost use Rattle.txc_rows.specs.declared.placed.Placed.{Placed};
 ghost use Rattle.txc_rows.specs.Versions.{suits};
-ghost use Rattle.txc_rows.specs.Holdable.{IsStorable};
+ghost use Rattle.txc_rows.specs.StorableVersions.{IsStorable};
 ghost use Rattle.txc_rows.specs.Placed.{version_of, lasts_to, left_from, placed_left, has_front_died, without_front_dead};
-ghost use Rattle.txc_rows.specs.Indexed.{version_id, version_group, spot_of, stamp_or_zero, FitsSpot, picked, is_from, dies_within, is_between, spot_suits, spots_asked, has_one_key, dead_between, DeathsRise, IsEarliest, IsLatest, DiedFirst, DiedLast};
-ghost use Rattle.txc_rows.specs.Kept.{IsFinding, AddsAround};
+ghost use Rattle.txc_rows.specs.ReplacedIndex.{version_id, version_group, spot_of, stamp_or_zero, FitsSpot, picked, is_from, dies_within, is_between, spot_suits, spots_asked, has_one_key, dead_between, DeathsAscend, IsEarliest, IsLatest, DiedFirst, DiedLast};
+ghost use Rattle.txc_rows.specs.LatestTable.{IsFinding, AddsAround};
 
 use crate::placed::Placed;
 use crate::query::Query;
@@ -68,7 +68,7 @@ pub(crate) struct Replaced {
 impl Model for Replaced {
     ghost use Rattle.std.specs.Prelude.{List, length, drop, ◌≤◌};
     ghost use Rattle.txc_rows.specs.declared.placed.Placed.{Placed};
-    ghost use Rattle.txc_rows.specs.Indexed.{AreIndexed};
+    ghost use Rattle.txc_rows.specs.ReplacedIndex.{AreIndexed};
 
     ghost Value = { List Placed };
 
@@ -142,7 +142,7 @@ fn spots_between(
     requires { AllByRecursion FitsSpot (filter (is_from deaths.number) spots.now.keys) }
     ensures spots { filter (dies_within deaths) result
         ≡ filter (is_between table first last) (filter (dies_within deaths) spots.now.keys) }
-    ensures rise { first ≡ last → DeathsRise (filter (dies_within deaths) result) }
+    ensures rise { first ≡ last → DeathsAscend (filter (dies_within deaths) result) }
 {
     let table = table.number();
     let low = Spot {
@@ -175,7 +175,7 @@ fn spots_for<'a>(
     requires groups { AllByRecursion FitsSpot (filter (is_from deaths.number) groups.now.keys) }
     ensures spots { filter (dies_within deaths) result ≡ filter (spot_suits query.now)
         (spots_asked query.now (filter (dies_within deaths) ids.now.keys) (filter (dies_within deaths) groups.now.keys)) }
-    ensures rise { has_one_key query.now ≡ true → DeathsRise (filter (dies_within deaths) result) }
+    ensures rise { has_one_key query.now ≡ true → DeathsAscend (filter (dies_within deaths) result) }
 {
     match *query {
         Query::ById(table, id) => spots_between(ids, deaths, table, id, id),
@@ -214,7 +214,7 @@ fn are_more(deaths: Deaths, spots: Range<'_, Spot>, most: usize) -> bool
 
 /// Returns the first that died within the range; if deaths ascend, that is the earliest.
 fn first_of(deaths: Deaths, spots: Range<'_, Spot>) -> Option<Spot>
-    requires { DeathsRise (filter (dies_within deaths) spots) }
+    requires { DeathsAscend (filter (dies_within deaths) spots) }
     ensures { MatchOption result (filter (dies_within deaths) spots.entry ≡ [])
         (IsEarliest (filter (dies_within deaths) spots.entry)) }
 {
@@ -228,7 +228,7 @@ fn first_of(deaths: Deaths, spots: Range<'_, Spot>) -> Option<Spot>
 
 /// Returns the last that died within the range; if deaths ascend, that is the latest.
 fn last_of(deaths: Deaths, mut spots: Range<'_, Spot>) -> Option<Spot>
-    requires { DeathsRise (filter (dies_within deaths) spots) }
+    requires { DeathsAscend (filter (dies_within deaths) spots) }
     ensures { MatchOption result (filter (dies_within deaths) spots.entry ≡ [])
         (IsLatest (filter (dies_within deaths) spots.entry)) }
 {
@@ -280,7 +280,7 @@ fn died_before(died: Option<Stamp>, from: u32) -> bool
 
 /// Returns the latest that died within the range: the last one if deaths ascend.
 fn latest_spot(deaths: Deaths, spots: Range<'_, Spot>, rise: bool) -> Option<Spot>
-    requires { rise ≡ true → DeathsRise (filter (dies_within deaths) spots) }
+    requires { rise ≡ true → DeathsAscend (filter (dies_within deaths) spots) }
     ensures { MatchOption result (filter (dies_within deaths) spots.entry ≡ [])
         (IsLatest (filter (dies_within deaths) spots.entry)) }
 {

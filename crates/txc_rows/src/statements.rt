@@ -6,8 +6,8 @@ ghost use Rattle.std.specs.List.{AllByRecursion};
 ghost use Rattle.sqlite.specs.Held.{state};
 ghost use Rattle.sqlite.specs.Steps.{over_memory, IsEmpty};
 ghost use Rattle.txc_rows.specs.Placed.{placed_left};
-ghost use Rattle.txc_rows.specs.Stored.{AreCells, placed_from};
-ghost use Rattle.txc_rows.specs.Kept.{latest_in, HasNoTable, HasTable, HasLatest, IsKept, IsStep, IsCall, IsLeaving};
+ghost use Rattle.txc_rows.specs.StoredVersion.{AreCells, placed_from};
+ghost use Rattle.txc_rows.specs.LatestTable.{latest_in, HasNoTable, HasTable, HasLatest, IsKept, IsStep, IsCall, IsLeaving};
 
 use crate::texts::{ADD_LATEST, DROP_LATEST, MAKE_LATEST, READ_LEFT};
 use sqlite::{Connection, Error, MemStore, Transaction, params};

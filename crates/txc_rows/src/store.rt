@@ -5,9 +5,9 @@ ghost use Rattle.std.specs.List.{AllByRecursion};
 ghost use Rattle.std.specs.List.Sorted.{IsPermutation, IsSorted};
 ghost use Rattle.txc_rows.specs.Versions.{suits, current, purged, after_net, version_cmp};
 ghost use Rattle.txc_rows.specs.Placed.{version_of, left_from, AreAmong, AreSwept, AreWellPlaced};
-ghost use Rattle.txc_rows.specs.Kept.{versions_of, IsRoom, IsStore};
-ghost use Rattle.txc_rows.specs.Holdable.{IsStorable};
-ghost use Rattle.txc_rows.specs.Found.{Finds, FindsAround};
+ghost use Rattle.txc_rows.specs.LatestTable.{versions_of, IsRoom, IsStore};
+ghost use Rattle.txc_rows.specs.StorableVersions.{IsStorable};
+ghost use Rattle.txc_rows.specs.FoundVersions.{Finds, FindsAround};
 ghost use Rattle.txc_rows.specs.StoreErrors.{IsStoreRefusal};
 ghost use Rattle.txc_rows.specs.declared.latest.TheConstants.{MOST_KNOWN};
 ghost use Rattle.txc_rows.specs.declared.store_error.TheConstants.{MAX_MATCHING, MOST_MATCHING};
@@ -45,7 +45,7 @@ impl Model for Store {
     ghost use Rattle.txc_rows.specs.declared.store_error.TheConstants.{MOST_MATCHING};
     ghost use Rattle.txc_rows.specs.declared.version.Versioned.{Versioned};
     ghost use Rattle.txc_rows.specs.Placed.{left_from, AreAmong};
-    ghost use Rattle.txc_rows.specs.Kept.{versions_of, IsStore};
+    ghost use Rattle.txc_rows.specs.LatestTable.{versions_of, IsStore};
 
     ghost Value = { List Versioned };
 

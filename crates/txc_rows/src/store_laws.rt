@@ -1,5 +1,5 @@
 //! Lemmas about stores of versions. They have no code.
-ghost use Rattle.txc_rows.specs.Uses.{UsesAnswer, KeepsNothing, KeepsAgreed, KeepsQuiet};
+ghost use Rattle.txc_rows.specs.StoreHistory.{UsesAnswer, KeepsNothing, KeepsAgreed, KeepsQuiet};
 
 /// The versions found in a store give the answers at every stamp from the last horizon on, if the store was
 /// written at ascending stamps and purged at ascending horizons.

@@ -6,7 +6,7 @@ use crate::store::Store;
 use std::alloc::Global;
 use std::marker::Model;
 use std::{mem, ptr};
-use txc_parts::Parts;
+use txc_base::Parts;
 
 /// A pointer to a store, or to none.
 ///
@@ -30,7 +30,7 @@ impl Drop for StoreSlot {
 
 impl Model for StoreSlot {
     ghost use Rattle.std.specs.Box.Ownership.{box_owns};
-    ghost use Rattle.txc_rows.specs.Owned.{when};
+    ghost use Rattle.txc_rows.specs.HandleOwnership.{when};
     ghost use Rattle.txc_rows.specs.contracts.store.Store.{the_row};
     ghost use Rattle.std.specs.contracts.impls.GlobalAllocator.TheImpl.{ghosts};
 

@@ -3,9 +3,9 @@
 ghost use Rattle.std.specs.Prelude.{◌≡◌, ℕ, ◌+◌, ◌<◌, ◌≤◌, [], Err, IfOk, IfErr, OnOk, OnErr, length, filter, map};
 ghost use Rattle.txc_rows.specs.Versions.{suits, current, purged, after_net, counted_from};
 ghost use Rattle.txc_rows.specs.States.{State};
-ghost use Rattle.txc_rows.specs.Found.{Finds, FindsAround};
-ghost use Rattle.txc_rows.specs.Keeping.{KeepsStates, KeepsWritten, KeepsPurged, KeepsBegun, AnswersStates, AnswersNewest};
-ghost use Rattle.txc_rows.specs.Around.{AnswersAround};
+ghost use Rattle.txc_rows.specs.FoundVersions.{Finds, FindsAround};
+ghost use Rattle.txc_rows.specs.KeptStates.{KeepsStates, KeepsWritten, KeepsPurged, KeepsBegun, AnswersStates, AnswersNewest};
+ghost use Rattle.txc_rows.specs.FoundAnswers.{AnswersAround};
 ghost use Rattle.txc_rows.specs.StoreErrors.{IsStoreRefusal};
 ghost use Rattle.txc_rows.specs.declared.store_error.TheConstants.{MAX_MATCHING, MOST_MATCHING};
 

@@ -8,9 +8,9 @@ ghost use Rattle.txc_stamp.specs.declared.stamp.TheConstants.{MOST_STAMP};
 ghost use Rattle.txc_rows.specs.Values.{IsRow};
 ghost use Rattle.txc_rows.specs.States.{is_at};
 ghost use Rattle.txc_rows.specs.Versions.{put, after_write, after_net};
-ghost use Rattle.txc_rows.specs.Holdable.{IsStorable};
+ghost use Rattle.txc_rows.specs.StorableVersions.{IsStorable};
 ghost use Rattle.txc_rows.specs.Placed.{in_group, is_touched, has_key, closed_placed, new_placed, renewed, put_latest, HaveOwnKeys, IsOneCurrent, AreBelow, AreWellPlaced, AreAll, AreAmong, KeepsOthers, AddsAtEnd};
-ghost use Rattle.txc_rows.specs.Kept.{latest_in, versions_of, HasTable, HasLatest, HasWritten, ArePassing, IsKept, IsStep, IsCall};
+ghost use Rattle.txc_rows.specs.LatestTable.{latest_in, versions_of, HasTable, HasLatest, HasWritten, ArePassing, IsKept, IsStep, IsCall};
 
 use crate::decode::all_placed_from;
 use crate::placed::Placed;
@@ -26,21 +26,21 @@ use txc_tags::Table;
 /// Numbers of versions that died in the table, of dead ones that were replaced in it, and of those that are the
 /// first of their table, id and group.
 #[derive(Clone, Copy)]
-pub(crate) struct Written {
+pub(crate) struct WriteCounts {
     pub ended: usize,
     pub revived: usize,
     pub added: usize,
 }
 
-impl Written {
-    pub(crate) const NOTHING: Written = Written {
+impl WriteCounts {
+    pub(crate) const NOTHING: WriteCounts = WriteCounts {
         ended: 0,
         revived: 0,
         added: 0,
     };
 
-    fn and(self, other: Written) -> Written {
-        Written {
+    fn and(self, other: WriteCounts) -> WriteCounts {
+        WriteCounts {
             ended: self.ended.wrapping_add(other.ended),
             revived: self.revived.wrapping_add(other.revived),
             added: self.added.wrapping_add(other.added),
@@ -310,7 +310,7 @@ fn write_put(
     row: &Row,
     stamp: Stamp,
     place: u32,
-) -> Result<Written, Error>
+) -> Result<WriteCounts, Error>
     requires table { HasTable tx.old.conn.now }
     requires inside { tx.old.conn.now.in_transaction ≡ true }
     requires apart { AreWellPlaced (latest_in tx.old.conn.now) replaced.old }
@@ -329,7 +329,7 @@ fn write_put(
     let is_first = last.is_none();
     let revived = replace(replaced, last, stamp)?;
     put_version(tx, place, row, stamp, is_first)?;
-    Ok(Written {
+    Ok(WriteCounts {
         ended,
         revived,
         added: usize::from(is_first),
@@ -347,7 +347,7 @@ fn write_change(
     change: &Change,
     stamp: Stamp,
     place: u32,
-) -> Result<Written, Error>
+) -> Result<WriteCounts, Error>
     requires table { HasTable tx.old.conn.now }
     requires inside { tx.old.conn.now.in_transaction ≡ true }
     requires apart { AreWellPlaced (latest_in tx.old.conn.now) replaced.old }
@@ -369,9 +369,9 @@ fn write_change(
         Change::Remove(table, id) => {
             let ended = end_version(tx, *table, *id, stamp)?;
             forget(known, *table, *id);
-            Ok(Written {
+            Ok(WriteCounts {
                 ended,
-                ..Written::NOTHING
+                ..WriteCounts::NOTHING
             })
         }
     }
@@ -387,7 +387,7 @@ fn write_table(
     net: &[Change],
     stamp: Stamp,
     place: u32,
-) -> Result<Written, Error>
+) -> Result<WriteCounts, Error>
     requires kept { IsKept conn.old }
     requires apart { AreWellPlaced (latest_in conn.old) replaced.old }
     requires below { AreBelow place (latest_in conn.old ++ replaced.old) }
@@ -399,7 +399,7 @@ fn write_table(
     ensures longer { AddsAtEnd replaced.old replaced.new }
 {
     let mut tx = conn.transaction();
-    let mut written = Written::NOTHING;
+    let mut written = WriteCounts::NOTHING;
     let mut next = place;
     for change in net {
         let one = write_change(&mut tx, replaced, known, alloc, change, stamp, next)?;
@@ -420,7 +420,7 @@ pub(crate) fn write_all(
     net: &[Change],
     stamp: Stamp,
     place: u32,
-) -> Result<Written, Error>
+) -> Result<WriteCounts, Error>
     requires kept { IsKept conn.old }
     requires apart { AreWellPlaced (latest_in conn.old) replaced.old }
     requires below { AreBelow place (latest_in conn.old ++ replaced.old) }

@@ -20,8 +20,8 @@ use Rattle.txc_script.specs.declared.running.Flow.{Flow}
 use Rattle.txc_script.specs.declared.running.Flow.TheVariants.{GoesOn, Stopped}
 use Rattle.txc_script.specs.declared.running.Replies.{Replies}
 use Rattle.txc_script.specs.declared.running.Running.{Running}
-use Rattle.txc_script.specs.declared.unread.Unanswered.{Unanswered}
-use Rattle.txc_script.specs.declared.unread.Unanswered.TheVariants.{Wrong, Memory}
+use Rattle.txc_script.specs.declared.unread.LineError.{LineError}
+use Rattle.txc_script.specs.declared.unread.LineError.TheVariants.{Wrong, Memory}
 use Rattle.txc_script.proofs.EachLine.{all_read, any_more, begins_longer, begins_more, given_more, kept_append, kept_reads, no_end, none_read, nothing_kept, status_is, text_more, whole_reads, ReadsAs}
 
 -- ---- one line
@@ -62,7 +62,7 @@ line_answered kind s next old new refused number line plain h same = record {
 }
 
 -- a line was not answered; what is wrong with it was, which changed nothing
-pub unanswered_answered : {S A R F : Type 0} (kind : ScriptKind S A R F) (s next : S) (old new : Replies F) (seen : List ℕ) (number : ℕ) (line : List ℕ) (why : Unanswered F) (r : Result (Flow F) AllocError) → (IsBlankOrComment line → ⊥)
+pub unanswered_answered : {S A R F : Type 0} (kind : ScriptKind S A R F) (s next : S) (old new : Replies F) (seen : List ℕ) (number : ℕ) (line : List ℕ) (why : LineError F) (r : Result (Flow F) AllocError) → (IsBlankOrComment line → ⊥)
     → IsUnanswered kind s line next why → OnOk r ((fault : CommandFault F) × (why ≡ Wrong fault)) → seen ≡ old.text.items → IfOk r (IsStoppedAt kind next number line) → OnOk r (new.text.items ≡ seen ++ malformed_text number)
     → OnOk r (new.is_refused ≡ true) → IfOk r (AnswersLine kind s next old new number line)
 unanswered_answered kind s next old new seen number line (Wrong fault) r bare none wrong kept stops text refused =

@@ -3,7 +3,7 @@ use Rattle.std.proofs.Common.{◌≡◌, ◌<◌, ℕ, Bool, true, false, Some, 
 use Rattle.std.specs.Prelude.{if◌then◌else◌}
 use Rattle.std.specs.List.{AllByRecursion, join_with_byte}
 use Rattle.std.specs.Str.{bytes_eq}
-use Rattle.txc_script.specs.Forms.{AsksBy, IsOfForm, LineForm, form_named}
+use Rattle.txc_script.specs.LineForms.{AsksBy, IsOfForm, LineForm, form_named}
 use Rattle.txc_script.specs.LineFaults.{IsCommandFault}
 use Rattle.txc_script.specs.Lines.{IsBlankOrComment, IsQuiet}
 use Rattle.txc_script.specs.Words.{words_of}

@@ -9,8 +9,8 @@ use Rattle.txc_node.specs.Texts.{digits_of}
 use Rattle.txc_script.specs.Hex.{IsBytes, IsHexWord}
 use Rattle.txc_script.specs.LineFaults.{IsUnsaid, SaysNone}
 use Rattle.txc_script.specs.declared.line_fault.WordKind.TheVariants.{Bytes}
-use Rattle.txc_script.specs.declared.unread.Unsaid.{Unsaid}
-use Rattle.txc_script.specs.declared.unread.Unsaid.TheVariants as unsaid
+use Rattle.txc_script.specs.declared.unread.WordError.{WordError}
+use Rattle.txc_script.specs.declared.unread.WordError.TheVariants as unsaid
 
 length_of_digits : (bytes : List ℕ) → length (flat_map digits_of bytes) ≡ 2 * length bytes
 length_of_digits [] = refl
@@ -43,7 +43,7 @@ hex_digits : (text bytes : List ℕ) → (text ≡ codes "-" → ⊥) → IsHexW
 hex_digits text [] bare word = absurd (bare word.1)
 hex_digits text (b ∷ bytes) bare word = (word.0, sym word.1)
 
-pub hex_unread : (text : List ℕ) (r : Result (Vec ℕ) Unsaid) → (text ≡ codes "-" → ⊥) → IfErr r (SaysNone (HasDigits text) (λ at. at ≡ None)) → IfErr r (IsUnsaid Bytes text)
+pub hex_unread : (text : List ℕ) (r : Result (Vec ℕ) WordError) → (text ≡ codes "-" → ⊥) → IfErr r (SaysNone (HasDigits text) (λ at. at ≡ None)) → IfErr r (IsUnsaid Bytes text)
 hex_unread text (Ok v) bare h = tt
 hex_unread text (Err (unsaid.Bad at)) bare h = ((λ w. h.0 (w.0, hex_digits text w.0 bare w.1)), h.1)
 hex_unread text (Err unsaid.Memory) bare h = tt

@@ -16,7 +16,7 @@ use Rattle.txc_tags.proofs.Offered.{same_key_text, same_spelt_text}
 use Rattle.txc_node.specs.Texts.{digit_of, digits_of, hex_text}
 use Rattle.txc_script.specs.Hex.{IsBytes}
 use Rattle.txc_script.specs.Lines.{still_text}
-use Rattle.txc_script.specs.SaidWords.{AllSaidOf, Mean, Means, SaidOf}
+use Rattle.txc_script.specs.ParsedWords.{AllSaidOf, Mean, Means, SaidOf}
 use Rattle.txc_script.specs.declared.line_fault.WordKind.{WordKind}
 use Rattle.txc_script.specs.declared.line_fault.WordKind.TheVariants.{Key, Stamp, Reach, Tags, Bytes, Table, Id, Function, Number, Text, QueryName, ChangeName}
 

@@ -4,21 +4,21 @@ use Rattle.std.specs.Prelude.{IsErr, IsErrAnd}
 use Rattle.std.proofs.lemmas.List.{length-append}
 use Rattle.txc_script.specs.Excerpts.{excerpt_of}
 use Rattle.txc_script.specs.LineFaults.{AreOfKinds, IsBadWord, IsKindsFault, IsWrong, StopsAt}
-use Rattle.txc_script.specs.SaidWords.{AllSaidOf, IsOfKind, Mean, Means, SaidOf, SayAll, SaysWord}
+use Rattle.txc_script.specs.ParsedWords.{AllSaidOf, IsOfKind, Mean, Means, SaidOf, SayAll, SaysWord}
 use Rattle.txc_script.specs.declared.line_fault.CommandFault.{CommandFault}
 use Rattle.txc_script.specs.declared.line_fault.CommandFault.TheVariants as faults
 use Rattle.txc_script.specs.declared.line_fault.WordFault.{WordFault}
 use Rattle.txc_script.specs.declared.line_fault.WordKind.{WordKind}
 use Rattle.txc_script.specs.declared.line_fault.WordKind.TheVariants as kinds
-use Rattle.txc_script.specs.declared.said.Said.{Said}
-use Rattle.txc_script.specs.declared.said.Said.TheVariants as said
-use Rattle.txc_script.specs.declared.unread.Unanswered.{Unanswered}
-use Rattle.txc_script.specs.declared.unread.Unanswered.TheVariants.{Wrong, Memory}
+use Rattle.txc_script.specs.declared.parsed_word.ParsedWord.{ParsedWord}
+use Rattle.txc_script.specs.declared.parsed_word.ParsedWord.TheVariants as said
+use Rattle.txc_script.specs.declared.unread.LineError.{LineError}
+use Rattle.txc_script.specs.declared.unread.LineError.TheVariants.{Wrong, Memory}
 
 -- ---- what is said, by the kinds alone
 
 -- how a reader gives it
-abbrev pub said_by : (kind : WordKind) → SaidOf kind → Said
+abbrev pub said_by : (kind : WordKind) → SaidOf kind → ParsedWord
 said_by kinds.Key = said.Key
 said_by kinds.Stamp = said.Stamp
 said_by kinds.Reach = λ still. said.Other
@@ -32,7 +32,7 @@ said_by (kinds.Text most) = said.Text
 said_by kinds.QueryName = said.Query
 said_by kinds.ChangeName = said.Change
 
-pub meant : (kind : WordKind) (word : List ℕ) (given : Said) → SaysWord kind word given → (value : SaidOf kind) × Means kind word value × (given ≡ said_by kind value)
+pub meant : (kind : WordKind) (word : List ℕ) (given : ParsedWord) → SaysWord kind word given → (value : SaidOf kind) × Means kind word value × (given ≡ said_by kind value)
 meant kinds.Key word (said.Key key) h = (key, h, refl)
 meant kinds.Stamp word (said.Stamp stamp) h = (stamp, h, refl)
 meant kinds.Table word (said.Table table) h = (table, h, refl)
@@ -47,21 +47,21 @@ meant kinds.Tags word said.Other h = (h.0, h.1, refl)
 meant kinds.Bytes word said.Other h = (h.0, h.1, refl)
 meant kind word given h = absurd h
 
-abbrev pub all_said_by : (kinds : List WordKind) → AllSaidOf kinds → List Said
+abbrev pub all_said_by : (kinds : List WordKind) → AllSaidOf kinds → List ParsedWord
 all_said_by [] values = []
 all_said_by (kind ∷ kinds) values = said_by kind values.0 ∷ all_said_by kinds values.1
 
-pub said_of : (kinds : List WordKind) (words : List (List ℕ)) (values : List Said) → SayAll kinds words values → (all : AllSaidOf kinds) × Mean kinds words all × (values ≡ all_said_by kinds all)
+pub said_of : (kinds : List WordKind) (words : List (List ℕ)) (values : List ParsedWord) → SayAll kinds words values → (all : AllSaidOf kinds) × Mean kinds words all × (values ≡ all_said_by kinds all)
 said_of [] [] [] h = (tt, tt, refl)
 said_of (kind ∷ kinds) (word ∷ words) (value ∷ values) h =
     let first = meant kind word value h.0 in
     let rest = said_of kinds words values h.1 in
-    ((first.0, rest.0), (first.1, rest.1), ap (λ (v : Said). v ∷ values) first.2 ∙ ap (λ (vs : List Said). said_by kind first.0 ∷ vs) rest.2)
+    ((first.0, rest.0), (first.1, rest.1), ap (λ (v : ParsedWord). v ∷ values) first.2 ∙ ap (λ (vs : List ParsedWord). said_by kind first.0 ∷ vs) rest.2)
 said_of kinds words values h = absurd h
 
 -- ---- words that say something are of their kinds, and nothing is wrong with them
 
-are_of_kinds : (kinds : List WordKind) (words : List (List ℕ)) (values : List Said) → SayAll kinds words values → AreOfKinds kinds words
+are_of_kinds : (kinds : List WordKind) (words : List (List ℕ)) (values : List ParsedWord) → SayAll kinds words values → AreOfKinds kinds words
 are_of_kinds [] [] [] h = tt
 are_of_kinds (kind ∷ kinds) (word ∷ words) (value ∷ values) h = let first = meant kind word value h.0 in ((first.0, first.1), are_of_kinds kinds words values h.1)
 are_of_kinds kinds words values h = absurd h
@@ -96,7 +96,7 @@ not_wrong kinds words (faults.Count wanted given) h all = h.2 (h.1 ∙ are_as_ma
 not_wrong kinds words (faults.Word fault) h all = none_bad kinds words fault h.1 all
 not_wrong kinds words fault h all = absurd h
 
-pub none_wrong : {F : Type 0} (kinds : List WordKind) (words : List (List ℕ)) (fault : CommandFault F) (values : List Said) → IsKindsFault kinds words fault → SayAll kinds words values → ⊥
+pub none_wrong : {F : Type 0} (kinds : List WordKind) (words : List (List ℕ)) (fault : CommandFault F) (values : List ParsedWord) → IsKindsFault kinds words fault → SayAll kinds words values → ⊥
 none_wrong kinds words fault values h say = not_wrong kinds words fault h (are_of_kinds kinds words values say)
 
 -- ---- words that are read each as what it says
@@ -142,7 +142,7 @@ bad_within kinds words fault b = omega (arith, b.number, ap length b.words_are, 
 -- ---- words that are read one after the other
 
 -- the words before these are so many, and say this
-pub record HasRead (kinds : List WordKind) (words : List (List ℕ)) (rest : List WordKind) (left : List (List ℕ)) (values : List Said) (number : ℕ) : Type 0 where
+pub record HasRead (kinds : List WordKind) (words : List (List ℕ)) (rest : List WordKind) (left : List (List ℕ)) (values : List ParsedWord) (number : ℕ) : Type 0 where
   pub good_kinds : List WordKind
   pub good : List (List ℕ)
   pub kinds_are : kinds ≡ good_kinds ++ rest
@@ -150,15 +150,15 @@ pub record HasRead (kinds : List WordKind) (words : List (List ℕ)) (rest : Lis
   pub say : SayAll good_kinds good values
   pub counted : number ≡ length good
 
-pub none_read : (kinds : List WordKind) (words : List (List ℕ)) (values : List Said) → values ≡ [] → HasRead kinds words kinds words values 0
+pub none_read : (kinds : List WordKind) (words : List (List ℕ)) (values : List ParsedWord) → values ≡ [] → HasRead kinds words kinds words values 0
 none_read kinds words values none = record { good_kinds = []; good = []; kinds_are = refl; words_are = refl; say = subst (SayAll [] []) (sym none) tt; counted = refl }
 
-say_more : (ks : List WordKind) (ws : List (List ℕ)) (vs : List Said) (k : WordKind) (w : List ℕ) (v : Said) → SayAll ks ws vs → SaysWord k w v → SayAll (ks ++ k ∷ []) (ws ++ w ∷ []) (vs ++ v ∷ [])
+say_more : (ks : List WordKind) (ws : List (List ℕ)) (vs : List ParsedWord) (k : WordKind) (w : List ℕ) (v : ParsedWord) → SayAll ks ws vs → SaysWord k w v → SayAll (ks ++ k ∷ []) (ws ++ w ∷ []) (vs ++ v ∷ [])
 say_more [] [] [] k w v h is = (is, tt)
 say_more (j ∷ ks) (x ∷ ws) (y ∷ vs) k w v h is = (h.0, say_more ks ws vs k w v h.1 is)
 say_more ks ws vs k w v h is = absurd h
 
-pub one_more_read : (kinds : List WordKind) (words : List (List ℕ)) (kind : WordKind) (rest others : List WordKind) (word : List ℕ) (left after : List (List ℕ)) (values more : List Said) (value : Said) (number : ℕ)
+pub one_more_read : (kinds : List WordKind) (words : List (List ℕ)) (kind : WordKind) (rest others : List WordKind) (word : List ℕ) (left after : List (List ℕ)) (values more : List ParsedWord) (value : ParsedWord) (number : ℕ)
     → HasRead kinds words rest left values number → rest ≡ kind ∷ others → left ≡ word ∷ after → SaysWord kind word value → more ≡ values ++ value ∷ [] → HasRead kinds words others after more (number + 1)
 one_more_read kinds words kind rest others word left after values more value number h k e is longer = record {
   good_kinds = h.good_kinds ++ kind ∷ [];
@@ -169,7 +169,7 @@ one_more_read kinds words kind rest others word left after values more value num
   counted = omega (arith, h.counted, length-append h.good (word ∷ []));
 }
 
-pub bad_read : (kinds : List WordKind) (words : List (List ℕ)) (rest others : List WordKind) (word : List ℕ) (left after : List (List ℕ)) (values : List Said) (number : ℕ) (fault : WordFault)
+pub bad_read : (kinds : List WordKind) (words : List (List ℕ)) (rest others : List WordKind) (word : List ℕ) (left after : List (List ℕ)) (values : List ParsedWord) (number : ℕ) (fault : WordFault)
     → HasRead kinds words rest left values number → rest ≡ fault.kind ∷ others → left ≡ word ∷ after → fault.number ≡ number + 1 → (IsOfKind fault.kind word → ⊥)
     → fault.text ≡ excerpt_of word → StopsAt fault.kind word fault.at → IsBadWord kinds words fault
 bad_read kinds words rest others word left after values number fault h k e next bad text stops = record {
@@ -187,7 +187,7 @@ bad_read kinds words rest others word left after values number fault h k e next 
   stops = stops;
 }
 
-pub all_read : (kinds : List WordKind) (words : List (List ℕ)) (rest : List WordKind) (left : List (List ℕ)) (values : List Said) (number : ℕ) → HasRead kinds words rest left values number → rest ≡ [] → left ≡ []
+pub all_read : (kinds : List WordKind) (words : List (List ℕ)) (rest : List WordKind) (left : List (List ℕ)) (values : List ParsedWord) (number : ℕ) → HasRead kinds words rest left values number → rest ≡ [] → left ≡ []
     → SayAll kinds words values
 all_read kinds words rest left values number h none empty =
     let ks : h.good_kinds ≡ kinds = sym (h.kinds_are ∙ ap (λ (ks : List WordKind). h.good_kinds ++ ks) none ∙ append-nil h.good_kinds) in
@@ -196,14 +196,14 @@ all_read kinds words rest left values number h none empty =
 
 -- ---- what is wrong is wrong in other words
 
-pub wrong_in : {F : Type 0} (e : Unanswered F) (Is Js : CommandFault F → Type 0) → IsWrong Is e → ((fault : CommandFault F) → Is fault → Js fault) → IsWrong Js e
+pub wrong_in : {F : Type 0} (e : LineError F) (Is Js : CommandFault F → Type 0) → IsWrong Is e → ((fault : CommandFault F) → Is fault → Js fault) → IsWrong Js e
 wrong_in (Wrong fault) Is Js wrong there = there fault wrong
 wrong_in Memory Is Js wrong there = tt
 
-pub wrong_of : {T F : Type 0} (r : Result T (Unanswered F)) (Is Js : CommandFault F → Type 0) → IfErr r (IsWrong Is) → ((fault : CommandFault F) → Is fault → Js fault) → IfErr r (IsWrong Js)
+pub wrong_of : {T F : Type 0} (r : Result T (LineError F)) (Is Js : CommandFault F → Type 0) → IfErr r (IsWrong Is) → ((fault : CommandFault F) → Is fault → Js fault) → IfErr r (IsWrong Js)
 wrong_of (Ok x) Is Js wrong there = tt
 wrong_of (Err e) Is Js wrong there = wrong_in e Is Js wrong there
 
-pub wrong_as : {T F : Type 0} (r : Result T (Unanswered F)) (e : Unanswered F) (Is Js : CommandFault F → Type 0) → IsErr r × IsErrAnd r (λ x. x ≡ e) → IsWrong Is e → ((fault : CommandFault F) → Is fault → Js fault) → IfErr r (IsWrong Js)
+pub wrong_as : {T F : Type 0} (r : Result T (LineError F)) (e : LineError F) (Is Js : CommandFault F → Type 0) → IsErr r × IsErrAnd r (λ x. x ≡ e) → IsWrong Is e → ((fault : CommandFault F) → Is fault → Js fault) → IfErr r (IsWrong Js)
 wrong_as (Ok x) e Is Js h wrong there = tt
 wrong_as (Err x) e Is Js h wrong there = subst (IsWrong Js) (sym h.1) (wrong_in e Is Js wrong there)

@@ -10,7 +10,7 @@ use Rattle.txc_script.specs.Kinds.{ScriptKind, Given, AreFirstLines, Closing, li
 use Rattle.txc_script.specs.Progress.{Progress, progress_of, AnswersAs, EndsFlushed, EndsWith, HasAnsweredLines, IsAtLast, IsKeptBeside, TurnsTo}
 use Rattle.txc_script.specs.Runs.{Breaks, After, Within, AtEnd, BreaksOff, Ends, ScriptHasRun, ScriptHasWritten}
 use Rattle.txc_script.specs.Script.{HasNoEnd}
-use Rattle.txc_script.specs.Written.{AppendsPrefix}
+use Rattle.txc_script.specs.WriterPrefix.{AppendsPrefix}
 use Rattle.txc_script.specs.declared.fault.RunFault.{RunFault}
 use Rattle.txc_script.specs.declared.fault.RunFault.TheVariants.{Read, Write, Memory}
 use Rattle.txc_script.specs.declared.fault.Status.{Status}

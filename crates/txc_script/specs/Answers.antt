@@ -3,8 +3,8 @@ use Rattle.std.specs.Prelude.{◌≡◌, ◌⊎◌, ℕ, Bool, false, List, ◌+
 use Rattle.std.specs.List.{list_any}
 use Rattle.txc_script.specs.Kinds.{ScriptKind, Given, is_malformed}
 use Rattle.txc_script.specs.Words.{words_of}
-use Rattle.txc_script.specs.declared.unread.Unanswered.{Unanswered}
-use Rattle.txc_script.specs.declared.unread.Unanswered.TheVariants.{Wrong, Memory}
+use Rattle.txc_script.specs.declared.unread.LineError.{LineError}
+use Rattle.txc_script.specs.declared.unread.LineError.TheVariants.{Wrong, Memory}
 
 -- the line asks for something, which was done, and what is written of its reply was put after the text
 pub record LineIsAnswered {S A R F : Type 0} (kind : ScriptKind S A R F) (s : S) (line : List ℕ) (end : S)
@@ -18,7 +18,7 @@ pub record LineIsAnswered {S A R F : Type 0} (kind : ScriptKind S A R F) (s : S)
 
 -- the line has this fault in its words, and nothing changed; or there is no memory, before the line's step or
 -- during it
-abbrev pub IsUnanswered : {S A R F : Type 0} → ScriptKind S A R F → S → List ℕ → S → Unanswered F → Type 0
+abbrev pub IsUnanswered : {S A R F : Type 0} → ScriptKind S A R F → S → List ℕ → S → LineError F → Type 0
 IsUnanswered {S} {A} {R} {F} kind s line end (Wrong fault) =
     ((asked : A) → kind.asks s line asked → ⊥) × (end ≡ s) × kind.is_wrong s (words_of line) fault
 IsUnanswered kind s line end Memory = (end ≡ s) ⊎ kind.breaks_off s line end

@@ -5,20 +5,20 @@ use Rattle.txc_tags.specs.TextGrammar.{IsLongestPrefix}
 use Rattle.txc_tags.specs.TextKey.{key_text, IsKeyInRange}
 use Rattle.txc_tags.specs.TextSet.{AreSpeltInRange, spelt_tags_text}
 use Rattle.txc_script.specs.Excerpts.{excerpt_of}
-use Rattle.txc_script.specs.Forms.{LineForm, form_named}
+use Rattle.txc_script.specs.LineForms.{LineForm, form_named}
 use Rattle.txc_script.specs.Lines.{IsPlain}
-use Rattle.txc_script.specs.SaidWords.{IsOfKind, Means, SaysWord}
+use Rattle.txc_script.specs.ParsedWords.{IsOfKind, Means, SaysWord}
 use Rattle.txc_script.specs.Words.{words_of}
 use Rattle.txc_script.specs.declared.line_fault.WordKind.{WordKind}
 use Rattle.txc_script.specs.declared.line_fault.WordKind.TheVariants.{Key, Tags, Bytes}
 use Rattle.txc_script.specs.declared.line_fault.WordFault.{WordFault}
 use Rattle.txc_script.specs.declared.line_fault.CommandFault.{CommandFault}
 use Rattle.txc_script.specs.declared.line_fault.CommandFault.TheVariants.{Unknown, Count, Word}
-use Rattle.txc_script.specs.declared.said.Said.{Said}
-use Rattle.txc_script.specs.declared.unread.Unanswered.{Unanswered}
-use Rattle.txc_script.specs.declared.unread.Unanswered.TheVariants.{Wrong, Memory}
-use Rattle.txc_script.specs.declared.unread.Unsaid.{Unsaid}
-use Rattle.txc_script.specs.declared.unread.Unsaid.TheVariants as unsaid
+use Rattle.txc_script.specs.declared.parsed_word.ParsedWord.{ParsedWord}
+use Rattle.txc_script.specs.declared.unread.LineError.{LineError}
+use Rattle.txc_script.specs.declared.unread.LineError.TheVariants.{Wrong, Memory}
+use Rattle.txc_script.specs.declared.unread.WordError.{WordError}
+use Rattle.txc_script.specs.declared.unread.WordError.TheVariants as unsaid
 
 -- ---- words
 
@@ -96,22 +96,22 @@ IsCommandFault {A} {F} forms all fault =
     × (form_named forms form.name ≡ Some form) × IsKindsFault form.kinds words fault)
 
 -- the fault is one of these, or there is no memory
-abbrev pub IsWrong : {F : Type 0} → (CommandFault F → Type 0) → Unanswered F → Type 0
+abbrev pub IsWrong : {F : Type 0} → (CommandFault F → Type 0) → LineError F → Type 0
 IsWrong Is (Wrong fault) = Is fault
 IsWrong Is Memory = ⊤
 
 -- ---- only private functions need this
 
 -- no such value exists, and this is the place of the fault; or there is no memory
-abbrev pub SaysNone : {V : Type 0} → (V → Type 0) → (Option ℕ → Type 0) → Unsaid → Type 0
+abbrev pub SaysNone : {V : Type 0} → (V → Type 0) → (Option ℕ → Type 0) → WordError → Type 0
 SaysNone {V} Is Stops (unsaid.Bad at) = ((v : V) × Is v → ⊥) × Stops at
 SaysNone Is Stops unsaid.Memory = ⊤
 
 -- the word is not of this kind, and this is the place of its fault; or there is no memory
-abbrev pub IsUnsaid : WordKind → List ℕ → Unsaid → Type 0
+abbrev pub IsUnsaid : WordKind → List ℕ → WordError → Type 0
 IsUnsaid kind word = SaysNone (Means kind word) (StopsAt kind word)
 
 -- the word is of this kind, and a reader returns this; or it is not
-abbrev pub IsWordRead : WordKind → List ℕ → Result Said Unsaid → Type 0
+abbrev pub IsWordRead : WordKind → List ℕ → Result ParsedWord WordError → Type 0
 IsWordRead kind word (Ok given) = SaysWord kind word given
 IsWordRead kind word (Err reason) = IsUnsaid kind word reason

@@ -10,10 +10,10 @@ use Rattle.txc_tags.specs.TextGrammar.{IsTextOf}
 use Rattle.txc_tags.specs.TextKey.{key_text, IsKeyInRange}
 use Rattle.txc_tags.specs.TextSet.{IsSetOfText}
 use Rattle.txc_script.specs.declared.line.TheConstants.{MAX_LINE_LEN}
-use Rattle.txc_script.specs.declared.said.QueryName.{QueryName}
-use Rattle.txc_script.specs.declared.said.QueryName.TheVariants as queries
-use Rattle.txc_script.specs.declared.said.ChangeName.{ChangeName}
-use Rattle.txc_script.specs.declared.said.ChangeName.TheVariants as changes
+use Rattle.txc_script.specs.declared.parsed_word.QueryName.{QueryName}
+use Rattle.txc_script.specs.declared.parsed_word.QueryName.TheVariants as queries
+use Rattle.txc_script.specs.declared.parsed_word.ChangeName.{ChangeName}
+use Rattle.txc_script.specs.declared.parsed_word.ChangeName.TheVariants as changes
 
 -- ---- words
 

@@ -9,8 +9,8 @@ ghost use Rattle.txc_script.specs.LineFaults.{is_foreign, is_empty, kinds_for, I
 use crate::kind::Script;
 use crate::line::MAX_LINE_LEN;
 use crate::line_fault::{CommandFault, LineFault, WordKind};
-use crate::said::{ChangeName, QueryName, Said, TextWord};
-use crate::unread::Unsaid;
+use crate::parsed_word::{ChangeName, ParsedWord, QueryName, TextWord};
+use crate::unread::WordError;
 use crate::word::{Word, read_function, read_id, read_table};
 use crate::words::{all_words, count_words};
 use std::alloc::Global;
@@ -60,34 +60,38 @@ pub fn change_name(word: &[u8]) -> Option<ChangeName>
 }
 
 /// Returns the meaning of the word. Fails if it is not of its kind, or if memory cannot be allocated.
-pub fn read_word(alloc: Global, kind: WordKind, word: &[u8]) -> Result<Said<'_>, Unsaid>
+pub fn read_word(alloc: Global, kind: WordKind, word: &[u8]) -> Result<ParsedWord<'_>, WordError>
     ensures { IsWordRead kind word.now result }
 {
     match kind {
-        WordKind::Key => Ok(Said::Key(<Key as Word>::read(alloc, word)?)),
-        WordKind::Stamp => Ok(Said::Stamp(<Stamp as Word>::read(alloc, word)?)),
+        WordKind::Key => Ok(ParsedWord::Key(<Key as Word>::read(alloc, word)?)),
+        WordKind::Stamp => Ok(ParsedWord::Stamp(<Stamp as Word>::read(alloc, word)?)),
         WordKind::Reach => {
             let _still = <bool as Word>::read(alloc, word)?;
-            Ok(Said::Other)
+            Ok(ParsedWord::Other)
         }
         WordKind::Tags => {
             let _tags = <TagSet as Word>::read(alloc, word)?;
-            Ok(Said::Other)
+            Ok(ParsedWord::Other)
         }
         WordKind::Bytes => {
             let _bytes = <Vec<u8> as Word>::read(alloc, word)?;
-            Ok(Said::Other)
+            Ok(ParsedWord::Other)
         }
-        WordKind::Table => Ok(Said::Table(read_table(word).ok_or(Unsaid::Bad(None))?)),
-        WordKind::Id => Ok(Said::Id(read_id(word).ok_or(Unsaid::Bad(None))?)),
-        WordKind::Function => Ok(Said::Function(read_function(word).ok_or(Unsaid::Bad(None))?)),
-        WordKind::Number(most) => Ok(Said::Number(read_number(word, most).ok_or(Unsaid::Bad(
+        WordKind::Table => Ok(ParsedWord::Table(read_table(word).ok_or(WordError::Bad(None))?)),
+        WordKind::Id => Ok(ParsedWord::Id(read_id(word).ok_or(WordError::Bad(None))?)),
+        WordKind::Function => Ok(ParsedWord::Function(read_function(word).ok_or(WordError::Bad(
             None,
         ))?)),
-        WordKind::Text(most) if is_text(most, word) => Ok(Said::Text(TextWord::new(word))),
-        WordKind::Text(_) => Err(Unsaid::Bad(None)),
-        WordKind::QueryName => Ok(Said::Query(query_name(word).ok_or(Unsaid::Bad(None))?)),
-        WordKind::ChangeName => Ok(Said::Change(change_name(word).ok_or(Unsaid::Bad(None))?)),
+        WordKind::Number(most) => Ok(ParsedWord::Number(read_number(word, most).ok_or(
+            WordError::Bad(None),
+        )?)),
+        WordKind::Text(most) if is_text(most, word) => Ok(ParsedWord::Text(TextWord::new(word))),
+        WordKind::Text(_) => Err(WordError::Bad(None)),
+        WordKind::QueryName => Ok(ParsedWord::Query(query_name(word).ok_or(WordError::Bad(None))?)),
+        WordKind::ChangeName => Ok(ParsedWord::Change(change_name(word).ok_or(WordError::Bad(
+            None,
+        ))?)),
     }
 }
 

@@ -6,7 +6,7 @@ ghost use Rattle.txc_script.specs.Hex.{IsBytes, IsHexWord};
 ghost use Rattle.txc_script.specs.LineFaults.{IsUnsaid, SaysNone};
 ghost use Rattle.txc_script.specs.declared.line_fault.WordKind.TheVariants as kinds;
 
-use crate::unread::Unsaid;
+use crate::unread::WordError;
 use std::alloc::Global;
 
 /// The entry in [`DIGITS`] of a byte that is not a digit.
@@ -55,7 +55,7 @@ fn read_byte(high: u8, low: u8) -> Option<u8>
 }
 
 /// Returns the bytes of a text of digits, two for each byte.
-fn read_digits(alloc: Global, text: &[u8]) -> Result<Vec<u8>, Unsaid>
+fn read_digits(alloc: Global, text: &[u8]) -> Result<Vec<u8>, WordError>
     ensures answer { IfOk result (λ v.
         IsBytes v.items × (flat_map digits_of v.items ≡ text.now)) }
     ensures refused { IfErr result (SaysNone (λ bytes.
@@ -63,19 +63,19 @@ fn read_digits(alloc: Global, text: &[u8]) -> Result<Vec<u8>, Unsaid>
 {
     let mut bytes = match Vec::with_capacity(alloc, text.len() / 2) {
         Ok(bytes) => bytes,
-        Err(_) => return Err(Unsaid::Memory),
+        Err(_) => return Err(WordError::Memory),
     };
     let mut rest = text;
     'digits: loop {
         match rest {
             [] => return Ok(bytes),
-            [_] => return Err(Unsaid::Bad(None)),
+            [_] => return Err(WordError::Bad(None)),
             [high, low, after @ ..] => {
                 match read_byte(*high, *low) {
-                    None => return Err(Unsaid::Bad(None)),
+                    None => return Err(WordError::Bad(None)),
                     Some(byte) => match bytes.push(byte) {
                         Ok(()) => rest = after,
-                        Err(_) => return Err(Unsaid::Memory),
+                        Err(_) => return Err(WordError::Memory),
                     },
                 }
             }
@@ -85,7 +85,7 @@ fn read_digits(alloc: Global, text: &[u8]) -> Result<Vec<u8>, Unsaid>
 
 /// Returns the bytes of a text: `-` for none, or two digits for each. Fails if the text is not of that form, or
 /// if memory cannot be allocated.
-pub fn read_hex(alloc: Global, text: &[u8]) -> Result<Vec<u8>, Unsaid>
+pub fn read_hex(alloc: Global, text: &[u8]) -> Result<Vec<u8>, WordError>
     ensures answer { IfOk result (λ v. IsHexWord text.now v.items) }
     ensures refused { IfErr result (IsUnsaid kinds.Bytes text.now) }
 {
@@ -93,7 +93,7 @@ pub fn read_hex(alloc: Global, text: &[u8]) -> Result<Vec<u8>, Unsaid>
         return Ok(Vec::new(alloc));
     }
     if text.is_empty() {
-        return Err(Unsaid::Bad(None));
+        return Err(WordError::Bad(None));
     }
     read_digits(alloc, text)
 }

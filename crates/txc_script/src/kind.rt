@@ -5,7 +5,7 @@ ghost use Rattle.txc_script.specs.Kinds.{ScriptKind, Given, is_malformed};
 ghost use Rattle.txc_script.specs.Answers.{LineIsAnswered, IsUnanswered, IsClosed};
 ghost use Rattle.txc_script.specs.Lines.{IsPlain};
 
-use crate::unread::Unanswered;
+use crate::unread::LineError;
 use std::alloc::{AllocError, Global};
 
 /// A kind of script: how a run executes its lines. The value is shared by all lines of a run.
@@ -31,7 +31,7 @@ pub trait Script {
         state: &mut Self::State,
         line: &[u8],
         text: &mut Vec<u8>,
-        why: &mut Unanswered<Self::Fault>,
+        why: &mut LineError<Self::Fault>,
     ) -> Option<bool>
         requires { IsPlain line.now }
         ensures answered { IfSome result (LineIsAnswered (kind self.now) state.old line.now state.new

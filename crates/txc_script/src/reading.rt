@@ -1,14 +1,14 @@
 //! Reading the words of a line.
 ghost use Rattle.std.specs.Prelude.{◌≡◌, IfOk, IfErr, length};
 ghost use Rattle.txc_script.specs.LineFaults.{kinds_for, IsKindsFault, IsWrong};
-ghost use Rattle.txc_script.specs.SaidWords.{SayAll};
+ghost use Rattle.txc_script.specs.ParsedWords.{SayAll};
 ghost use Rattle.txc_script.specs.Words.{words_left};
 
 use crate::excerpt::Excerpt;
 use crate::finding::{next_kind, read_word};
 use crate::line_fault::{CommandFault, WordFault, WordKind};
-use crate::said::Said;
-use crate::unread::{Unanswered, Unsaid};
+use crate::parsed_word::ParsedWord;
+use crate::unread::{LineError, WordError};
 use crate::words::WordsLeft;
 use std::alloc::Global;
 
@@ -20,7 +20,7 @@ pub fn read_each<'a, F>(
     other: WordKind,
     words: WordsLeft<'a>,
     count: usize,
-) -> Result<Vec<Said<'a>>, Unanswered<F>>
+) -> Result<Vec<ParsedWord<'a>>, LineError<F>>
     requires { length (words_left words) ≡ count }
     ensures answer { IfOk result (λ said. SayAll (kinds_for kinds.now other (words_left words.entry))
         (words_left words.entry) said.items) }
@@ -35,9 +35,9 @@ pub fn read_each<'a, F>(
         let word = left.next();
         match read_word(alloc, kind, word) {
             Ok(value) => said.push_reserved(value),
-            Err(Unsaid::Memory) => return Err(Unanswered::Memory),
-            Err(Unsaid::Bad(at)) => {
-                return Err(Unanswered::Wrong(CommandFault::Word(WordFault {
+            Err(WordError::Memory) => return Err(LineError::Memory),
+            Err(WordError::Bad(at)) => {
+                return Err(LineError::Wrong(CommandFault::Word(WordFault {
                     number: before + 1,
                     kind,
                     at,
@@ -56,13 +56,13 @@ pub fn read_words<'a, F>(
     kinds: &[WordKind],
     words: WordsLeft<'a>,
     count: usize,
-) -> Result<Vec<Said<'a>>, Unanswered<F>>
+) -> Result<Vec<ParsedWord<'a>>, LineError<F>>
     requires { length (words_left words) ≡ count }
     ensures answer { IfOk result (λ said. SayAll kinds.now (words_left words.entry) said.items) }
     ensures refused { IfErr result (IsWrong (IsKindsFault kinds.now (words_left words.entry))) }
 {
     if count != kinds.len() {
-        return Err(Unanswered::Wrong(CommandFault::Count {
+        return Err(LineError::Wrong(CommandFault::Count {
             wanted: kinds.len(),
             given: count,
         }));

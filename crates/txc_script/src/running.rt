@@ -6,7 +6,7 @@ ghost use Rattle.txc_script.specs.Kinds.{IsFaultOf, malformed_text};
 ghost use Rattle.txc_script.specs.LineFaults.{IsWrong};
 ghost use Rattle.txc_script.specs.Lines.{ArePlain, IsPlain};
 ghost use Rattle.txc_script.specs.Words.{words_of};
-ghost use Rattle.txc_script.specs.Written.{AppendsPrefix};
+ghost use Rattle.txc_script.specs.WriterPrefix.{AppendsPrefix};
 ghost use Rattle.txc_script.specs.Flows.{IsStoppedAt, status_after};
 ghost use Rattle.txc_script.specs.declared.line_fault.CommandFault.{CommandFault};
 ghost use Rattle.txc_script.specs.Progress.{progress_of, AnswersAs, AnswersLast, AnswersLine, HasAnsweredLines, HasLast, IsAtLast, IsKeptBeside, MayBreakOff};
@@ -17,7 +17,7 @@ use crate::kind::Script;
 use crate::line::{is_plain, is_quiet};
 use crate::line_fault::{LineFault, MalformedLine};
 use crate::piece::{LineStart, MAX_KEPT, cut_line};
-use crate::unread::Unanswered;
+use crate::unread::LineError;
 use crate::writer::write_text;
 use std::alloc::{AllocError, Global};
 use std::io::Write;
@@ -41,7 +41,7 @@ pub struct Replies<F> {
     is_refused: bool,
     /// The fault of a line without a reply. It is stored here since it is large: a line with a reply makes no
     /// room for it.
-    why: Unanswered<F>,
+    why: LineError<F>,
 }
 
 /// A run in progress, without its state.
@@ -124,18 +124,18 @@ fn answer_unanswered<K: Script>(
 ) -> Result<Flow<K::Fault>, AllocError>
     requires plain { IsPlain line.now }
     requires wrong { IsWrong ((K.kind kind.now).is_wrong state.now (words_of line.now)) replies.old.why }
-    ensures wrong { OnOk result ((fault : CommandFault K.Fault) × (replies.old.why ≡ Unanswered.Wrong fault)) }
+    ensures wrong { OnOk result ((fault : CommandFault K.Fault) × (replies.old.why ≡ LineError.Wrong fault)) }
     ensures stopped { IfOk result (IsStoppedAt (K.kind kind.now) state.now number line.now) }
     ensures text { OnOk result (replies.new.text.items ≡ replies.old.text.items ++ malformed_text number) }
     ensures refused { OnOk result (replies.new.is_refused ≡ true) }
     ensures unchanged { OnErr result (replies.new.text.items ≡ replies.old.text.items) }
 {
-    match mem::replace(&mut replies.why, Unanswered::Memory) {
-        Unanswered::Wrong(fault) => {
+    match mem::replace(&mut replies.why, LineError::Memory) {
+        LineError::Wrong(fault) => {
             let fault = bad_words(kind, state, line, fault);
             answer_malformed(alloc, kind, state, replies, number, line, fault)
         }
-        Unanswered::Memory => Err(AllocError),
+        LineError::Memory => Err(AllocError),
     }
 }
 
@@ -182,7 +182,7 @@ impl<F: Drop> Running<F> {
         let replies = Replies {
             text: Vec::new(alloc),
             is_refused: false,
-            why: Unanswered::Memory,
+            why: LineError::Memory,
         };
         Ok(Running {
             lines: 0,

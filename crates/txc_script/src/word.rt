@@ -5,13 +5,13 @@ ghost use Rattle.txc_tags.specs.declared.tag.TheConstants.{LAST_TABLE};
 ghost use Rattle.txc_tags.specs.declared.text.number.TheConstants.{LAST_NUMBER};
 ghost use Rattle.txc_script.specs.LineFaults.{takes_memory, IsUnsaid};
 ghost use Rattle.txc_script.specs.Lines.{IsNumberWord};
-ghost use Rattle.txc_script.specs.SaidWords.{Means, SaidOf};
+ghost use Rattle.txc_script.specs.ParsedWords.{Means, SaidOf};
 ghost use Rattle.txc_script.specs.declared.line_fault.WordKind.{WordKind};
 
 use crate::function_number::FunctionNumber;
 use crate::hex::read_hex;
 use crate::line_fault::WordKind;
-use crate::unread::Unsaid;
+use crate::unread::WordError;
 use std::alloc::Global;
 use txc_stamp::{LAST_STAMP, Stamp};
 use txc_tags::{Key, LAST_FUNCTION, LAST_NUMBER, LAST_TABLE, SetError, Table, TagSet, read_number};
@@ -29,10 +29,10 @@ pub trait Word: Drop {
         ensures { result ≡ kind };
 
     /// Returns the meaning of the word. Fails if it is not of the kind, or if memory cannot be allocated.
-    fn read(alloc: Global, word: &[u8]) -> Result<Self, Unsaid>
+    fn read(alloc: Global, word: &[u8]) -> Result<Self, WordError>
         ensures answer { IfOk result (λ value. Means kind word.now (said value)) }
         ensures refused { IfErr result (IsUnsaid kind word.now) }
-        ensures memory { result ≡ Err Unsaid.Memory → takes_memory kind ≡ true };
+        ensures memory { result ≡ Err WordError.Memory → takes_memory kind ≡ true };
 }
 
 impl Word for Key {
@@ -47,10 +47,10 @@ impl Word for Key {
     }
 
     #[inline(always)]
-    fn read(alloc: Global, word: &[u8]) -> Result<Key, Unsaid> {
+    fn read(alloc: Global, word: &[u8]) -> Result<Key, WordError> {
         match Key::read(word) {
             Ok(key) => Ok(key),
-            Err(bad) => Err(Unsaid::Bad(Some(bad.at))),
+            Err(bad) => Err(WordError::Bad(Some(bad.at))),
         }
     }
 }
@@ -67,10 +67,10 @@ impl Word for Stamp {
     }
 
     #[inline(always)]
-    fn read(alloc: Global, word: &[u8]) -> Result<Stamp, Unsaid> {
+    fn read(alloc: Global, word: &[u8]) -> Result<Stamp, WordError> {
         match read_number(word, u64::from(LAST_STAMP)) {
             Some(number) => Ok(Stamp::after(number as usize)),
-            None => Err(Unsaid::Bad(None)),
+            None => Err(WordError::Bad(None)),
         }
     }
 }
@@ -88,11 +88,11 @@ impl Word for bool {
     }
 
     #[inline(always)]
-    fn read(alloc: Global, word: &[u8]) -> Result<bool, Unsaid> {
+    fn read(alloc: Global, word: &[u8]) -> Result<bool, WordError> {
         match word {
             b"still" => Ok(true),
             b"closed" => Ok(false),
-            _ => Err(Unsaid::Bad(None)),
+            _ => Err(WordError::Bad(None)),
         }
     }
 }
@@ -110,11 +110,11 @@ impl Word for TagSet {
     }
 
     #[inline(always)]
-    fn read(alloc: Global, word: &[u8]) -> Result<TagSet, Unsaid> {
+    fn read(alloc: Global, word: &[u8]) -> Result<TagSet, WordError> {
         match TagSet::read(alloc, word) {
             Ok(tags) => Ok(tags),
-            Err(SetError::BadTag(bad)) => Err(Unsaid::Bad(Some(bad.at))),
-            Err(SetError::Memory(_)) => Err(Unsaid::Memory),
+            Err(SetError::BadTag(bad)) => Err(WordError::Bad(Some(bad.at))),
+            Err(SetError::Memory(_)) => Err(WordError::Memory),
         }
     }
 }
@@ -132,7 +132,7 @@ impl Word for Vec<u8> {
     }
 
     #[inline(always)]
-    fn read(alloc: Global, word: &[u8]) -> Result<Vec<u8>, Unsaid> {
+    fn read(alloc: Global, word: &[u8]) -> Result<Vec<u8>, WordError> {
         read_hex(alloc, word)
     }
 }

@@ -1,7 +1,7 @@
 //! Writing replies.
 ghost use Rattle.std.specs.Prelude.{◌≡◌, OnOk, OnErr, Err};
 ghost use Rattle.std.specs.Io.KnownBytes.{Appends};
-ghost use Rattle.txc_script.specs.Written.{AppendsPrefix};
+ghost use Rattle.txc_script.specs.WriterPrefix.{AppendsPrefix};
 
 use crate::fault::RunFault;
 use std::io::Write;

@@ -6,8 +6,8 @@ use Rattle.txc_stream.proofs.Offered.{prefix_trans, prefix_push, longer_is}
 use Rattle.txc_stream.specs.Names.{Name}
 use Rattle.txc_tags.specs.declared.tag.Tag.{Tag}
 use Rattle.txc_db.specs.History.{History, tags_at}
-use Rattle.txc_db.specs.Seen.{FrontValue, taken_at_start}
-use Rattle.txc_node.specs.declared.hit.Shown.{Shown}
+use Rattle.txc_db.specs.FrontsAndFeeds.{FrontValue, taken_at_start}
+use Rattle.txc_node.specs.declared.hit.HitValue.{HitValue}
 use Rattle.txc_node.specs.declared.op.Op.{Op}
 use Rattle.txc_node.specs.declared.op.Op.TheVariants as ops
 use Rattle.txc_node.specs.declared.reply.Reply.{Reply}
@@ -24,7 +24,7 @@ use Rattle.txc_shared.specs.Laws.{EventsAreTaken}
 use Rattle.txc_shared.specs.Histories.{cache_after, records_of, events_of, next_record, IsLegal}
 use Rattle.txc_shared.specs.Nodes.{NodeValue, IsHistoryFull, start_of, after_call, seeing, next_event, HasTags, HasAdvanced}
 use Rattle.txc_shared.specs.Passes.{PassValue, IsLegalOver, HasSeen, GrowsByOthers, HasMade, HasTaken}
-use Rattle.txc_shared.specs.Locked.{IsAhead, IsAdmitted}
+use Rattle.txc_shared.specs.LockedNode.{IsAhead, IsAdmitted}
 use Rattle.txc_shared.proofs.Histories.{records_of-append}
 use Rattle.txc_shared.proofs.Passes.{legal_as, legal_over, none_left}
 
@@ -54,7 +54,7 @@ others_did own old all begins same = record {
 }
 
 -- and then a step of its own
-pub then_own : (n m : NodeValue) (p q : PassValue) (seen : FrontValue) (op : Op) (reply : Reply Shown) → IsAdmitted n p
+pub then_own : (n m : NodeValue) (p q : PassValue) (seen : FrontValue) (op : Op) (reply : Reply HitValue) → IsAdmitted n p
     → m ≡ after_call (seeing n seen) p.pass op → q.records ≡ m.records → reply ≡ step_reply n.cache op → HasMade p q op reply
 then_own n m p q seen op reply h is shows reply_is =
     let o = others_did p.pass p.records n.records h.ahead.records h.turn in

@@ -8,11 +8,11 @@ use Rattle.txc_tags.specs.declared.tag.Tag.{Tag}
 use Rattle.txc_tags.specs.Keys.{Call}
 use Rattle.txc_db.specs.History.{History, tags_at}
 use Rattle.txc_db.specs.Laws.{TagsStay}
-use Rattle.txc_db.specs.Seen.{FrontValue}
+use Rattle.txc_db.specs.FrontsAndFeeds.{FrontValue}
 use Rattle.txc_db.specs.declared.answered.Answered.{Answered}
 use Rattle.txc_node.specs.declared.value.TheConstants.{MOST_VALUE_LEN}
 use Rattle.txc_node.specs.declared.entry.Entry.{Entry}
-use Rattle.txc_node.specs.declared.hit.Shown.{Shown}
+use Rattle.txc_node.specs.declared.hit.HitValue.{HitValue}
 use Rattle.txc_node.specs.declared.op.Op.{Op}
 use Rattle.txc_node.specs.declared.op.Op.TheVariants.{Insert, Lookup, Event, Sweep, Trim}
 use Rattle.txc_node.specs.declared.record.Record.{Record}
@@ -76,7 +76,7 @@ tags_in_longer stay L M number tags begins h =
     within = let long = length-append L begins.0 in let h = h.0 in omega (arith, long, h)
 
 -- what a lookup found in a true cache is true in the front beside it
-pub found_true : AnswersAreTrue → (next : Next) (c : Cache) (key : Call) (lo hi : ℕ) (seen : FrontValue) (found : Option (Answered Shown))
+pub found_true : AnswersAreTrue → (next : Next) (c : Cache) (key : Call) (lo hi : ℕ) (seen : FrontValue) (found : Option (Answered HitValue))
     → IsTrueCache next seen.history c → option_map (λ f. f.answer) found ≡ lookup_answer c key lo hi → IfSome found (λ f. f.front ≡ seen)
     → IfSome found (λ f. IsTrueIn next f.front.history (entry_shown key f.answer))
 found_true are_true next c key lo hi seen None right is front = tt

@@ -4,7 +4,7 @@ use mathlib.Core.List.{IsPrefix}
 use Rattle.txc_stream.proofs.Offered.{longer_is}
 use Rattle.txc_stream.specs.Names.{Name, stored, unstored}
 use Rattle.txc_db.specs.History.{History}
-use Rattle.txc_db.specs.Seen.{taken_at_start}
+use Rattle.txc_db.specs.FrontsAndFeeds.{taken_at_start}
 use Rattle.txc_node.specs.Cache.{Cache}
 use Rattle.txc_node.specs.declared.record.Record.{Record}
 use Rattle.txc_shared.specs.declared.settings.NodeSettings.{NodeSettings}

@@ -3,7 +3,7 @@ use Rattle.std.proofs.Common.{◌≡◌, ◌⊎◌, inl, inr, ◌∙◌, ℕ, �
 use Rattle.std.proofs.lemmas.List.{append_assoc, length_push}
 use Rattle.txc_stream.proofs.Offered.{prefix_self, prefix_trans}
 use Rattle.txc_stream.specs.Names.{Name}
-use Rattle.txc_db.specs.Seen.{FrontValue}
+use Rattle.txc_db.specs.FrontsAndFeeds.{FrontValue}
 use Rattle.txc_node.specs.declared.record.Record.{Record}
 use Rattle.txc_node.specs.declared.op.Op.TheVariants as ops
 use Rattle.txc_node.specs.declared.reply.Reply.TheVariants as replies
@@ -14,7 +14,7 @@ use Rattle.txc_shared.specs.declared.error.NodeError.TheVariants as errors
 use Rattle.txc_shared.specs.Histories.{records_of, next_record}
 use Rattle.txc_shared.specs.Nodes.{NodeValue, seeing, next_event, HasAdvanced}
 use Rattle.txc_shared.specs.Passes.{PassValue, HasGrown, GrowsByOthers, HasTaken, HasTakenEach, IsPassLeft}
-use Rattle.txc_shared.specs.Together.{EndTogether, StandTogether}
+use Rattle.txc_shared.specs.EventBatch.{EndTogether, StandTogether}
 use Rattle.txc_shared.proofs.Histories.{records_of-append}
 use Rattle.txc_shared.proofs.Turns.{one_record}
 

@@ -1,9 +1,9 @@
 -- The node worked by hand.
 use Rattle.std.proofs.Common.{refl, arith, List, [], ◌∷◌, ◌++◌}
-use Rattle.txc_db.specs.Worked.{worked}
+use Rattle.txc_db.specs.WorkedHistory.{worked}
 use Rattle.txc_node.specs.declared.record.Record.{Record}
 use Rattle.txc_shared.specs.Histories.{IsNext, IsLegal}
-use Rattle.txc_shared.specs.Worked.{three_steps, start, WorkedHistories}
+use Rattle.txc_shared.specs.WorkedNode.{three_steps, start, WorkedHistories}
 use Rattle.txc_app.proofs.Offered.{each_none, each_push}
 
 -- one legal record more

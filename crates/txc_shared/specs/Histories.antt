@@ -4,12 +4,12 @@ use Rattle.txc_db.specs.History.{History, tags_at}
 use Rattle.txc_node.specs.Cache.{Cache}
 use Rattle.txc_node.specs.Steps.{refusal_of, step_reply, after_step}
 use Rattle.txc_node.specs.declared.value.TheConstants.{MOST_VALUE_LEN}
-use Rattle.txc_node.specs.declared.hit.Shown.{Shown}
+use Rattle.txc_node.specs.declared.hit.HitValue.{HitValue}
 use Rattle.txc_node.specs.declared.op.Op.{Op}
 use Rattle.txc_node.specs.declared.op.Op.TheVariants.{Insert, Lookup, Event, Sweep, Trim}
 use Rattle.txc_node.specs.declared.reply.Reply.{Reply}
 use Rattle.txc_node.specs.declared.record.Record.{Record}
-use Rattle.txc_app.specs.Each.{EachAfter}
+use Rattle.txc_app.specs.EachAfter.{EachAfter}
 
 -- the cache after the steps of these records
 abbrev pub cache_after : Cache → List Record → Cache
@@ -52,5 +52,5 @@ abbrev pub events_of : List Record → ℕ
 events_of rs = count_by (λ (r : Record). is_event r.op) rs
 
 -- the next record of a pass
-abbrev pub next_record : ℕ → List Record → Op → Reply Shown → Record
+abbrev pub next_record : ℕ → List Record → Op → Reply HitValue → Record
 next_record pass rs op reply = record { pass = pass; turn = records_of pass rs; op = op; reply = reply }

@@ -4,7 +4,7 @@ use mathlib.Core.List.{IsPrefix}
 use Rattle.txc_tags.specs.Keys.{Call}
 use Rattle.txc_db.specs.History.{History, tags_at}
 use Rattle.txc_node.specs.declared.entry.Entry.{Entry}
-use Rattle.txc_node.specs.declared.hit.Shown.{Shown}
+use Rattle.txc_node.specs.declared.hit.HitValue.{HitValue}
 use Rattle.txc_node.specs.declared.op.Op.{Op}
 use Rattle.txc_node.specs.declared.record.Record.{Record}
 use Rattle.txc_node.specs.Cache.{Cache, empty_cache_at, entry_after, replayed_entry, lookup_answer}
@@ -75,7 +75,7 @@ BeginningIsLegal = (L : History) (start : Cache) (rs all : List Record)
 
 -- the result of a lookup in a true cache is true
 abbrev pub AnswersAreTrue : Type 0
-AnswersAreTrue = (next : Next) (L : History) (c : Cache) (key : Call) (lo hi : ℕ) (found : Shown)
+AnswersAreTrue = (next : Next) (L : History) (c : Cache) (key : Call) (lo hi : ℕ) (found : HitValue)
     → IsTrueCache next L c → lookup_answer c key lo hi ≡ Some found
     → IsTrueIn next L (record { key = key; value = found.value; reach = found.reach; tags = found.tags })
 

@@ -5,7 +5,7 @@ use Rattle.txc_stream.specs.Names.{Name, stored, unstored}
 use Rattle.txc_tags.specs.declared.tag.Tag.{Tag}
 use Rattle.txc_db.specs.History.{History}
 use Rattle.txc_node.specs.declared.entry.Entry.{Entry}
-use Rattle.txc_node.specs.declared.hit.Shown.{Shown}
+use Rattle.txc_node.specs.declared.hit.HitValue.{HitValue}
 use Rattle.txc_node.specs.declared.node.Inserted.{Inserted}
 use Rattle.txc_node.specs.declared.op.Op.{Op}
 use Rattle.txc_node.specs.declared.op.Op.TheVariants.{Insert, Event}
@@ -74,13 +74,13 @@ pub record GrowsByOthers (pass : ℕ) (old new : List Record) : Type 0 where
   pub none : records_of pass others ≡ 0
 
 -- the observed records are followed by records of other passes, and then by the next one of its own
-pub record HasNextRecord (pass : ℕ) (old new : List Record) (op : Op) (reply : Reply Shown) : Type 0 where
+pub record HasNextRecord (pass : ℕ) (old new : List Record) (op : Op) (reply : Reply HitValue) : Type 0 where
   pub others : List Record
   pub is : new ≡ old ++ others ++ next_record pass old op reply ∷ []
   pub none : records_of pass others ≡ 0
 
 -- its own next record is of this step and reply
-abbrev pub HasMade : PassValue → PassValue → Op → Reply Shown → Type 0
+abbrev pub HasMade : PassValue → PassValue → Op → Reply HitValue → Type 0
 HasMade old new op reply = HasNextRecord old.pass old.records new.records op reply
 
 -- it inserted the entry, with this result

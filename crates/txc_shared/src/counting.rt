@@ -5,10 +5,10 @@ ghost use Rattle.txc_tags.specs.declared.key.TheConstants.{LAST_FUNCTION};
 ghost use Rattle.txc_node.specs.Steps.{found_reply, function_of};
 ghost use Rattle.txc_node.specs.Counts.{AreCountsOf};
 ghost use Rattle.txc_node.specs.declared.record.Record.{Record};
-ghost use Rattle.txc_shared.specs.Locked.{DoCountAlike};
+ghost use Rattle.txc_shared.specs.LockedNode.{DoCountAlike};
 
 use txc_db::Answered;
-use txc_node::{Counts, Reply, Shown};
+use txc_node::{Counts, HitValue, Reply};
 
 /// Counts a step of that function by a reply with the same counts as the step's own. Does not allocate.
 #[inline(always)]
@@ -23,7 +23,7 @@ pub(crate) fn count_step<H>(counts: &mut Counts, function: Option<u8>, reply: &R
 }
 
 /// Returns a reply with the same counts as that of a lookup with this result. It copies nothing.
-pub(crate) fn reply_without_copies(found: &Option<Answered<Shown>>) -> Reply<()>
+pub(crate) fn reply_without_copies(found: &Option<Answered<HitValue>>) -> Reply<()>
     ensures { DoCountAlike result (found_reply (option_map (λ f. f.answer) found.now)) }
 {
     match found {

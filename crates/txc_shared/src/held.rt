@@ -2,7 +2,7 @@
 ghost use Rattle.std.specs.Prelude.{◌≡◌, ◌+◌, ◌<◌, ◌⊎◌, ◌↔◌, [], true, false, length, Some, None, Ok, Err, IfOk, OnOk, OnErr, IfErr, IfSome};
 ghost use Rattle.std.specs.Option.{option_map};
 ghost use mathlib.Core.List.{IsPrefix};
-ghost use Rattle.txc_db.specs.Seen.{taken_at_start};
+ghost use Rattle.txc_db.specs.FrontsAndFeeds.{taken_at_start};
 ghost use Rattle.txc_node.specs.declared.op.Op.TheVariants.{Lookup, Insert, Sweep, Trim};
 ghost use Rattle.txc_node.specs.declared.reply.Reply.TheVariants.{Swept, Trimmed};
 ghost use Rattle.txc_node.specs.Counts.{AreCountsOf};
@@ -11,16 +11,16 @@ ghost use Rattle.txc_app.specs.Claims.{IsTrueIn, entry_shown};
 ghost use Rattle.txc_shared.specs.Nodes.{NodeValue, IsHistoryFull, after_call, seeing, HasAdvanced};
 ghost use Rattle.txc_shared.specs.Passes.{PassValue, HasGrown, HasSeen, DoAgree, GrowsByOthers, HasMade, HasInserted, HasTaken, IsPassLeft};
 ghost use Rattle.txc_shared.specs.Refusals.{IsLookupRefused, IsStepRefused, IsTidyRefused, IsTakingRefused, IsCountRefused, IsNodeLeft, IsRefusedThrough, IsNewPassRefused};
-ghost use Rattle.txc_shared.specs.Locked.{IsAhead, IsAdmitted, LiesUnderLock};
-ghost use Rattle.txc_shared.specs.Together.{HasTakenMany, StandTogether};
+ghost use Rattle.txc_shared.specs.LockedNode.{IsAhead, IsAdmitted, LiesUnderLock};
+ghost use Rattle.txc_shared.specs.EventBatch.{HasTakenMany, StandTogether};
 
 use crate::advanced::{Advanced, Ended, MAX_TOGETHER};
 use crate::error::NodeError;
 use crate::insertion::Insertion;
 use crate::laws::legal_histories;
-use crate::left_node::LeftNode;
 use crate::log::MAX_PASSES;
 use crate::node_pass::NodePass;
+use crate::node_remains::NodeRemains;
 use crate::settings::NodeSettings;
 use crate::stored_node::StoredNode;
 use std::alloc::Global;
@@ -28,7 +28,7 @@ use std::marker::Model;
 use std::sync::Wait;
 use txc_app::App;
 use txc_db::{Answered, Event, Feed, HistoryFront, Naming};
-use txc_node::{Counts, Entry, Record, Shown};
+use txc_node::{Counts, Entry, HitValue, Record};
 use txc_stamp::Stamp;
 use txc_stream::{prefix_of_itself, prefix_of_prefix};
 use txc_tags::Key;
@@ -42,7 +42,7 @@ pub(crate) struct Held<A: App, J: Naming> {
 
 impl<A: App, J: Naming> Model for Held<A, J> {
     ghost use Rattle.txc_shared.specs.Nodes.{NodeValue};
-    ghost use Rattle.txc_shared.specs.Locked.{LiesUnderLock};
+    ghost use Rattle.txc_shared.specs.LockedNode.{LiesUnderLock};
 
     ghost Value = { NodeValue };
 
@@ -64,11 +64,11 @@ impl<A: App, J: Naming> Held<A, J> {
     }
 
     /// Returns the entries of the node, once no other thread has it.
-    pub(crate) fn leave(self) -> LeftNode<A>
+    pub(crate) fn drain(self) -> NodeRemains<A>
         ensures { result.seen.events ≡ J.database_history }
     {
         let Held { node, feed: _ } = self;
-        node.leave()
+        node.drain()
     }
 
     // Returns `true` if the node agrees with what a pass states about it.
@@ -201,7 +201,7 @@ impl<A: App, J: Naming> Held<A, J> {
         key: &Key,
         lo: Stamp,
         hi: Stamp,
-    ) -> Result<Option<Answered<Shown>>, NodeError>
+    ) -> Result<Option<Answered<HitValue>>, NodeError>
         ensures named { self.old.name ≡ J.node_histories self.old.settings.number }
         ensures after { OnOk result (self.new ≡ after_call self.old pass.old.pass (Lookup key.now lo hi)) }
         ensures unchanged { IfErr result (IsNodeLeft self.old self.new) }

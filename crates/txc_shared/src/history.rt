@@ -2,14 +2,14 @@
 ghost use Rattle.std.specs.Prelude.{◌≡◌, ◌++◌, ◌∷◌, [], IfOk, IsTrue, ◌↔◌, true, false};
 ghost use Rattle.txc_stream.specs.Names.{stored, unstored, HasRow};
 ghost use Rattle.txc_shared.specs.Nodes.{NodeFrontValue};
-ghost use Rattle.txc_shared.specs.Locked.{record_in, Suits, CanGrow};
+ghost use Rattle.txc_shared.specs.LockedNode.{record_in, Suits, CanGrow};
 
 use crate::node_front::NodeFront;
 use crate::prepared::Prepared;
 use std::alloc::{AllocError, Global};
 use std::marker::Model;
 use txc_node::Record;
-use txc_stream::{EventRow, Front, Pen};
+use txc_stream::{AppendToken, EventRow, Front};
 
 /// The history of a node: a front that shows the whole of it, and, if it is ghost, its pen.
 #[derive(Drop)]
@@ -17,7 +17,7 @@ pub(crate) struct History {
     front: NodeFront,
     // Shows nothing, as a new pass does.
     start: Front<Record>,
-    pen: Option<Pen<Record>>,
+    pen: Option<AppendToken<Record>>,
 }
 
 impl Model for History {
@@ -47,7 +47,7 @@ impl History {
     }
 
     /// Makes a ghost history without records.
-    pub(crate) fn unstored(mut pen: Pen<Record>) -> History
+    pub(crate) fn unstored(mut pen: AppendToken<Record>) -> History
         requires { pen.list ≡ [] }
         ensures { result ≡ record { name = unstored pen.number; records = [] } }
     {

@@ -1,6 +1,6 @@
 //! Lemmas about the definitions. They have no code: each contract is a law.
 ghost use Rattle.txc_shared.specs.Laws.{TrueAfterEvent, TrueAfterReplay, NodeBegins, NodeGoesOn, NodeBreaks, NodeSeesMore, LegalInLonger, NoRecordIsLegal, BeginningIsLegal, AnswersAreTrue, EventsAreTaken};
-ghost use Rattle.txc_shared.specs.Worked.{WorkedHistories};
+ghost use Rattle.txc_shared.specs.WorkedNode.{WorkedHistories};
 
 use txc_app::laws::{event_leaves_what_it_does_not_match, true_entries_stay};
 use txc_db::states_stay;

@@ -2,12 +2,12 @@
 ghost use Rattle.std.specs.Prelude.{◌≡◌, ◌+◌, ◌++◌, ◌∷◌, ◌<◌, ◌≤◌, [], ℕ, length, IfOk, OnOk, OnErr, IfErr, IsTrue, ◌↔◌, true, false};
 ghost use Rattle.txc_stream.specs.Names.{HasRow};
 ghost use Rattle.txc_node.specs.Steps.{step_reply};
-ghost use Rattle.txc_node.specs.declared.hit.Shown.{Shown};
+ghost use Rattle.txc_node.specs.declared.hit.HitValue.{HitValue};
 ghost use Rattle.txc_node.specs.declared.reply.Reply.{Reply};
 ghost use Rattle.txc_shared.specs.Histories.{records_of, next_record};
 ghost use Rattle.txc_shared.specs.Nodes.{NodeFrontValue};
 ghost use Rattle.txc_node.specs.declared.op.Op.TheVariants.{Insert, Lookup, Event};
-ghost use Rattle.txc_shared.specs.Locked.{record_in, Suits, AwaitsReply, IsRoomRefused, CanGrow};
+ghost use Rattle.txc_shared.specs.LockedNode.{record_in, Suits, AwaitsReply, IsRoomRefused, CanGrow};
 
 use crate::error::NodeError;
 use crate::history::History;
@@ -20,7 +20,7 @@ use std::alloc::{AllocError, Global};
 use std::marker::Model;
 use txc_node::{Entry, NodeCore, Op, Record, Reply};
 use txc_stamp::Stamp;
-use txc_stream::Draft;
+use txc_stream::GhostRecord;
 use txc_tags::{Key, TagSet};
 
 /// The most passes of a node.
@@ -121,7 +121,7 @@ impl Log {
     // Makes the next record of a pass, for a stored history. Its reply is set later.
     fn boxed(&self, alloc: Global, pass: usize, op: Op) -> Result<Box<Record>, AllocError>
         requires { pass < self.now.passes }
-        ensures { IfOk result (λ next. (reply : Reply Shown)
+        ensures { IfOk result (λ next. (reply : Reply HitValue)
             → record next.value { reply = reply } ≡ next_record pass self.now.records op reply) }
     {
         let next = Record {
@@ -134,7 +134,7 @@ impl Log {
     }
 
     // Drafts the next record of a pass, for a ghost history. It has no code.
-    fn draft(&self, pass: usize, op: &Op, core: &NodeCore) -> Draft<Record>
+    fn draft(&self, pass: usize, op: &Op, core: &NodeCore) -> GhostRecord<Record>
         requires { pass < self.now.passes }
         ensures { result.value ≡ next_record pass self.now.records op.now (step_reply core.now op.now) }
     {
@@ -144,7 +144,7 @@ impl Log {
             op,
             core,
         };
-        Draft::of::<Planned<'_>, AsPlanned>(&planned)
+        GhostRecord::of::<Planned<'_>, AsPlanned>(&planned)
     }
 
     /// Prepares the next record of a pass, whose step the cache will make. Allocates, and so can fail, only if
@@ -177,7 +177,7 @@ impl Log {
         lo: Stamp,
         hi: Stamp,
         core: &NodeCore,
-    ) -> Draft<Record>
+    ) -> GhostRecord<Record>
         requires { pass < self.now.passes }
         ensures { result.value
             ≡ next_record pass self.now.records (Lookup key.now lo hi) (step_reply core.now (Lookup key.now lo hi)) }
@@ -190,7 +190,7 @@ impl Log {
             hi,
             core,
         };
-        Draft::of::<Askable<'_>, AsLookup>(&askable)
+        GhostRecord::of::<Askable<'_>, AsLookup>(&askable)
     }
 
     /// Prepares the record of a lookup that the cache will make. Allocates, and so can fail, only if records
@@ -218,7 +218,7 @@ impl Log {
     }
 
     // Drafts the record of an insertion, for a ghost history. It has no code.
-    fn draft_insertion(&self, pass: usize, entry: &Entry, core: &NodeCore) -> Draft<Record>
+    fn draft_insertion(&self, pass: usize, entry: &Entry, core: &NodeCore) -> GhostRecord<Record>
         requires { pass < self.now.passes }
         ensures { result.value
             ≡ next_record pass self.now.records (Insert entry.now) (step_reply core.now (Insert entry.now)) }
@@ -229,7 +229,7 @@ impl Log {
             entry,
             core,
         };
-        Draft::of::<Insertable<'_>, AsInsertion>(&insertable)
+        GhostRecord::of::<Insertable<'_>, AsInsertion>(&insertable)
     }
 
     /// Prepares the record of an insertion that the cache will make. Allocates, and so can fail, only if
@@ -261,7 +261,7 @@ impl Log {
         stamp: Stamp,
         tags: &TagSet,
         core: &NodeCore,
-    ) -> Draft<Record>
+    ) -> GhostRecord<Record>
         requires { pass < self.now.passes }
         ensures { result.value
             ≡ next_record pass self.now.records (Event stamp tags.now) (step_reply core.now (Event stamp tags.now)) }
@@ -273,7 +273,7 @@ impl Log {
             tags,
             core,
         };
-        Draft::of::<Takeable<'_>, AsEvent>(&takeable)
+        GhostRecord::of::<Takeable<'_>, AsEvent>(&takeable)
     }
 
     /// Prepares the record of an event that the cache will take. Allocates, and so can fail, only if records

@@ -3,14 +3,14 @@ ghost use Rattle.std.specs.Prelude.{◌≡◌, ◌+◌, ◌^◌, ◌<◌, ◌≤
 ghost use Rattle.std.specs.Arc.{arc_value};
 ghost use mathlib.Core.List.{IsPrefix};
 ghost use Rattle.txc_stream.specs.Names.{stored, unstored, HasRow};
-ghost use Rattle.txc_stream.specs.Shown.{HasCells};
+ghost use Rattle.txc_stream.specs.FrontValue.{HasCells};
 ghost use Rattle.txc_shared.specs.Nodes.{IsHistoryFull, HasRecordRoom};
 
 use std::alloc::{AllocError, Global};
 use std::marker::Model;
 use std::sync::Arc;
 use txc_node::Record;
-use txc_stream::{Draft, EventRow, Front, Pen};
+use txc_stream::{AppendToken, EventRow, Front, GhostRecord};
 
 /// A prefix of the history of a node, as observed.
 ///
@@ -174,7 +174,7 @@ impl NodeFront {
     }
 
     /// Appends a record with the pen that has written all records of the front.
-    pub(crate) fn write(&mut self, pen: &mut Pen<Record>, draft: Draft<Record>)
+    pub(crate) fn write(&mut self, pen: &mut AppendToken<Record>, draft: GhostRecord<Record>)
         requires name { self.old.name ≡ unstored pen.old.number }
         requires whole { self.old.records ≡ pen.old.list }
         requires room { length self.old.records + 1 < 2 ^ 64 }

@@ -3,7 +3,7 @@ ghost use Rattle.txc_shared.specs.Planned.{planned_record};
 
 use txc_node::{Entry, NodeCore, Op, Record};
 use txc_stamp::Stamp;
-use txc_stream::Drafts;
+use txc_stream::GhostRecords;
 use txc_tags::{Key, TagSet};
 
 /// A step of a pass, with the cache that will make it.
@@ -18,7 +18,7 @@ pub(crate) struct Planned<'a> {
 /// The record of a planned step.
 pub(crate) struct AsPlanned;
 
-impl<'a> Drafts<Planned<'a>, Record> for AsPlanned {
+impl<'a> GhostRecords<Planned<'a>, Record> for AsPlanned {
     ghost record_of = { λ p. planned_record p.pass p.turn p.op.now p.core.now };
 }
 
@@ -36,7 +36,7 @@ pub(crate) struct Askable<'a> {
 /// The record of a lookup.
 pub(crate) struct AsLookup;
 
-impl<'a> Drafts<Askable<'a>, Record> for AsLookup {
+impl<'a> GhostRecords<Askable<'a>, Record> for AsLookup {
     ghost use Rattle.txc_node.specs.declared.op.Op.TheVariants.{Lookup};
 
     ghost record_of = { λ p. planned_record p.pass p.turn (Lookup p.key.now p.lo p.hi) p.core.now };
@@ -54,7 +54,7 @@ pub(crate) struct Insertable<'a> {
 /// The record of an insertion.
 pub(crate) struct AsInsertion;
 
-impl<'a> Drafts<Insertable<'a>, Record> for AsInsertion {
+impl<'a> GhostRecords<Insertable<'a>, Record> for AsInsertion {
     ghost use Rattle.txc_node.specs.declared.op.Op.TheVariants.{Insert};
 
     ghost record_of = { λ p. planned_record p.pass p.turn (Insert p.entry.now) p.core.now };
@@ -73,7 +73,7 @@ pub(crate) struct Takeable<'a> {
 /// The record of an event.
 pub(crate) struct AsEvent;
 
-impl<'a> Drafts<Takeable<'a>, Record> for AsEvent {
+impl<'a> GhostRecords<Takeable<'a>, Record> for AsEvent {
     ghost use Rattle.txc_node.specs.declared.op.Op.TheVariants.{Event};
 
     ghost record_of = { λ p. planned_record p.pass p.turn (Event p.stamp p.tags.now) p.core.now };

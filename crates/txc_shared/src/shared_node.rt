@@ -6,20 +6,20 @@ ghost use Rattle.txc_shared.specs.Refusals.{IsNewPassRefused, NodeMayRefuse};
 use crate::error::NodeError;
 use crate::held::Held;
 use crate::history::History;
-use crate::left_node::LeftNode;
 use crate::log::MAX_PASSES;
 use crate::node_front::NodeFront;
 use crate::node_pass::NodePass;
+use crate::node_remains::NodeRemains;
 use crate::settings::NodeSettings;
 use crate::stored_node::StoredNode;
 use std::alloc::{AllocError, Global};
 use std::marker::Model;
 use std::sync::{Mutex, Wait};
 use txc_app::App;
-use txc_db::{Database, Naming, lock_soon};
+use txc_db::{Database, Naming, lock_spinning};
 use txc_node::{MAX_CAPACITY, MAX_RECENT, Record};
 use txc_stamp::Stamp;
-use txc_stream::{EventRow, Pen};
+use txc_stream::{AppendToken, EventRow};
 
 /// A node that threads share. Contracts see its settings.
 ///
@@ -81,7 +81,7 @@ impl<A: App, J: Naming> SharedNode<A, J> {
         rt: &impl Wait,
         alloc: Global,
         settings: NodeSettings,
-        pen: Pen<Record>,
+        pen: AppendToken<Record>,
         database: &Database<J>,
     ) -> Result<SharedNode<A, J>, AllocError>
         requires capacity { (1 ≤ settings.capacity) × (settings.capacity ≤ MAX_CAPACITY) }
@@ -130,11 +130,11 @@ impl<A: App, J: Naming> SharedNode<A, J> {
         ensures records { IfOk result (λ pass. pass.records ≡ []) }
         ensures refused { IfErr result (NodeMayRefuse J.node_histories (IsNewPassRefused self.now)) }
     {
-        lock_soon(rt, &self.lock).pass(self.settings)
+        lock_spinning(rt, &self.lock).pass(self.settings)
     }
 
     /// Returns the entries of the node, once no other thread has it. Does not allocate.
-    pub fn leave(self) -> LeftNode<A>
+    pub fn drain(self) -> NodeRemains<A>
         ensures number { result.number ≡ self.number }
         ensures seen { result.seen.events ≡ J.database_history }
     {
@@ -143,8 +143,8 @@ impl<A: App, J: Naming> SharedNode<A, J> {
             start: _,
             lock,
         } = self;
-        let left = lock.into_inner().leave();
-        LeftNode {
+        let left = lock.into_inner().drain();
+        NodeRemains {
             number: settings.number,
             ..left
         }

@@ -11,7 +11,7 @@ ghost use Rattle.txc_shared.specs.Nodes.{NodeValue, start_of, after_call, seeing
 ghost use Rattle.txc_shared.specs.Histories.{records_of};
 ghost use Rattle.txc_shared.specs.Runs.{IsNode};
 ghost use Rattle.txc_shared.specs.Refusals.{CanRecord, IsStepRefused, IsTidyRefused, IsTakingRefused, IsLookupRefused, IsPassRefused, IsNodeLeft};
-ghost use Rattle.txc_shared.specs.Locked.{IsRoomRefused, CanGrow};
+ghost use Rattle.txc_shared.specs.LockedNode.{IsRoomRefused, CanGrow};
 
 use crate::advanced::Advanced;
 use crate::counting::{count_step, reply_without_copies};
@@ -19,18 +19,20 @@ use crate::error::NodeError;
 use crate::history::History;
 use crate::insertion::Insertion;
 use crate::laws::{answers_are_true, nodes_go_on};
-use crate::left_node::LeftNode;
 use crate::log::{Log, MAX_PASSES};
 use crate::node_front::NodeFront;
+use crate::node_remains::NodeRemains;
 use crate::settings::NodeSettings;
 use std::alloc::{AllocError, Global};
 use std::marker::{Model, PhantomData};
 use txc_app::App;
 use txc_app::laws::true_entries_stay;
 use txc_db::{Answered, Event, HistoryFront, states_stay};
-use txc_node::{Counts, Entry, Hit, MAX_RECENT, MOST_CAPACITY, NodeCore, Op, Record, Reply, Shown};
+use txc_node::{
+    Counts, Entry, Hit, HitValue, MAX_RECENT, MOST_CAPACITY, NodeCore, Op, Record, Reply,
+};
 use txc_stamp::Stamp;
-use txc_stream::{EventRow, Pen};
+use txc_stream::{AppendToken, EventRow};
 use txc_tags::{Key, TagSet};
 
 /// A node of the cache, with the history of its steps, which is stored or ghost, and the database history that
@@ -119,7 +121,7 @@ impl<A: App> StoredNode<A> {
     pub fn unstored(
         alloc: Global,
         settings: NodeSettings,
-        pen: Pen<Record>,
+        pen: AppendToken<Record>,
         seen: HistoryFront,
     ) -> Result<StoredNode<A>, AllocError>
         requires capacity { (1 ≤ settings.capacity) × (settings.capacity ≤ MOST_CAPACITY) }
@@ -200,7 +202,7 @@ impl<A: App> StoredNode<A> {
     }
 
     /// Returns the entries of a node that is no longer used. Does not allocate.
-    pub fn leave(self) -> LeftNode<A>
+    pub fn drain(self) -> NodeRemains<A>
         ensures number { result.number ≡ self.settings.number }
         ensures entries { result.entries ≡ self.cache.entries }
         ensures processed { result.processed ≡ self.cache.processed }
@@ -217,9 +219,9 @@ impl<A: App> StoredNode<A> {
             of: _,
         } = self;
         let processed = core.processed();
-        LeftNode {
+        NodeRemains {
             number: settings.number,
-            entries: core.leave(),
+            entries: core.drain(),
             processed,
             seen,
             of: PhantomData,
@@ -374,7 +376,7 @@ impl<A: App> StoredNode<A> {
         key: &Key,
         lo: Stamp,
         hi: Stamp,
-    ) -> Result<Option<Answered<Shown>>, NodeError>
+    ) -> Result<Option<Answered<HitValue>>, NodeError>
         requires { pass < self.old.passes }
         ensures after { OnOk result (self.new ≡ after_call self.old pass (Lookup key.now lo hi)) }
         ensures answer { IfOk result (λ found.
@@ -614,7 +616,7 @@ fn copied_hit(
     alloc: Global,
     hit: Option<Hit<'_>>,
     front: &HistoryFront,
-) -> Result<Option<Answered<Shown>>, AllocError>
+) -> Result<Option<Answered<HitValue>>, AllocError>
     ensures answer { IfOk result (λ found. option_map (λ f. f.answer) found ≡ option_map seen hit.entry) }
     ensures front { IfOk result (λ found. IfSome found (λ f. f.front ≡ front.now)) }
 {

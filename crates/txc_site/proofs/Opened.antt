@@ -1,17 +1,17 @@
 -- Why a site is not opened, by its parts.
 use Rattle.std.proofs.Common.{ℕ, List}
-use Rattle.txc_ledger.specs.declared.run_error.RunError.{RunError}
-use Rattle.txc_rw.specs.Core.{RwValue}
+use Rattle.txc_site_ledger.specs.declared.run_error.RunError.{RunError}
+use Rattle.txc_txn_rw.specs.RwCore.{RwValue}
 use Rattle.txc_stream.specs.Names.{Name}
-use Rattle.txc_carry.specs.Rooms.{IsHistoryFor}
-use Rattle.txc_visits.specs.declared.error.OpenError.{OpenError}
-use Rattle.txc_visits.specs.declared.error.OpenError.TheVariants as opens
-use Rattle.txc_keeper.specs.declared.error.SiteError.{SiteError}
-use Rattle.txc_keeper.specs.declared.error.SiteError.TheVariants as sites
-use Rattle.txc_visits.specs.declared.plan.Plan.{Plan}
-use Rattle.txc_site.specs.Opened.{IsOpeningRefused, IsOpenRefused}
-use Rattle.txc_visits.specs.Sites.{IsVisitRefused, IsClientRefused, IsDatabaseRefused, IsRegistryRefused, IsSiteRefused}
-use Rattle.txc_visits.specs.Plans.{IsPlan}
+use Rattle.txc_db_carry.specs.Rooms.{IsHistoryFor}
+use Rattle.txc_site_workers.specs.declared.error.OpenError.{OpenError}
+use Rattle.txc_site_workers.specs.declared.error.OpenError.TheVariants as opens
+use Rattle.txc_site_keeper.specs.declared.error.SiteError.{SiteError}
+use Rattle.txc_site_keeper.specs.declared.error.SiteError.TheVariants as sites
+use Rattle.txc_site_workers.specs.declared.plan.Plan.{Plan}
+use Rattle.txc_site.specs.SiteResult.{IsOpeningRefused, IsOpenRefused}
+use Rattle.txc_site_workers.specs.Sites.{AreWorkersRefused, IsClientRefused, IsDatabaseRefused, IsRegistryRefused, IsSiteRefused}
+use Rattle.txc_site_workers.specs.Plans.{IsPlan}
 
 module _ (plan : Plan) (numbers : List ℕ) (sound : IsPlan plan) where
   pub database_so : (error : SiteError) → IsDatabaseRefused error → IsSiteRefused plan numbers error
@@ -44,7 +44,7 @@ module _ (plan : Plan) (numbers : List ℕ) (sound : IsPlan plan) where
 
   -- the visits were
   pub visit_so : {T : Type 0} (makes : RwValue → T → Type 0) (refuses : RunError → Type 0) (error : OpenError)
-      → IsVisitRefused numbers error → IsOpenRefused plan numbers makes refuses error
+      → AreWorkersRefused numbers error → IsOpenRefused plan numbers makes refuses error
   visit_so makes refuses (opens.Site error) h = client_so error h
   visit_so makes refuses (opens.Opening error) h = absurd h
   visit_so makes refuses opens.Threads h = sound

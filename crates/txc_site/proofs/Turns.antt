@@ -9,12 +9,12 @@ use mathlib.Core.List.{IsPrefix}
 use Rattle.txc_db.specs.declared.error.DbError.{DbError}
 use Rattle.txc_db.specs.declared.error.DbError.TheVariants as databases
 use Rattle.txc_db.specs.DatabaseValue.{DatabaseValue, after_vacuum, front_of, newest, newest_state}
-use Rattle.txc_db.specs.Seen.{FrontValue}
+use Rattle.txc_db.specs.FrontsAndFeeds.{FrontValue}
 use Rattle.txc_stream.specs.Names.{Name}
 use Rattle.txc_site.specs.declared.error.GenerationError.{GenerationError}
 use Rattle.txc_site.specs.declared.error.GenerationError.TheVariants as generations
-use Rattle.txc_visits.specs.declared.plan.Plan.{Plan}
-use Rattle.txc_site.specs.declared.returning.Generation.{Generation}
+use Rattle.txc_site_workers.specs.declared.plan.Plan.{Plan}
+use Rattle.txc_site.specs.declared.recurring.Generation.{Generation}
 use Rattle.txc_site.specs.Generations.{AreInTurn, ComeAfter, ComesAfter, GenerationsHaveEnded, HaveServed, IsEndRefused, IsGeneration, IsGenerationRefused, IsNextRefused, IsShort, last_state}
 
 -- of two beginnings the one that is not longer is a beginning of the other
@@ -82,7 +82,7 @@ no_next_front room ended (Err e) is = subst (IsNextRefused room ended) (sym is) 
 -- what ends a generation ends all
 end_so : {T : Type 0} (room : Option ℕ) (numbers : List ℕ) (gs : List (Generation T)) (error : GenerationError) → IsGenerationRefused numbers error
     → IsEndRefused room numbers gs error
-end_so room numbers gs (generations.Visit error) h = h
+end_so room numbers gs (generations.Workers error) h = h
 end_so room numbers gs (generations.Ended error) h = h
 end_so room numbers gs (generations.Carry error) h = absurd h
 end_so room numbers gs generations.Memory h = absurd h
@@ -90,7 +90,7 @@ end_so room numbers gs generations.Memory h = absurd h
 -- and so does what refuses the next one
 next_so : {T : Type 0} (room : Option ℕ) (numbers : List ℕ) (gs : List (Generation T)) (g : Generation T) (error : GenerationError) → IsNextRefused room g.ended error
     → IsEndRefused room numbers (gs ++ g ∷ []) error
-next_so room numbers gs g (generations.Visit error) h = absurd h
+next_so room numbers gs g (generations.Workers error) h = absurd h
 next_so room numbers gs g (generations.Ended error) h = absurd h
 next_so room numbers gs g (generations.Carry error) h = (gs, g, refl, h)
 next_so room numbers gs g generations.Memory h = tt

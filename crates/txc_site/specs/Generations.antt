@@ -4,24 +4,24 @@ use Rattle.std.specs.declared.alloc.Global.{Global}
 use Rattle.txc_stream.specs.Names.{Name}
 use mathlib.Core.List.{IsPrefix}
 use Rattle.txc_app.specs.Eval.{Next}
-use Rattle.txc_carry.specs.Carried.{IsCarryRefused}
-use Rattle.txc_carry.specs.Rooms.{IsHistoryFor, room_for}
+use Rattle.txc_db_carry.specs.Carry.{IsCarryRefused}
+use Rattle.txc_db_carry.specs.Rooms.{IsHistoryFor, room_for}
 use Rattle.txc_db.specs.declared.error.DbError.TheVariants as databases
 use Rattle.txc_db.specs.DatabaseValue.{DatabaseValue, front_of}
 use Rattle.txc_db.specs.History.{state_at}
-use Rattle.txc_db.specs.Seen.{FrontValue}
+use Rattle.txc_db.specs.FrontsAndFeeds.{FrontValue}
 use Rattle.txc_rows.specs.States.{State}
-use Rattle.txc_rw.specs.Core.{RwValue}
-use Rattle.txc_rw.specs.declared.rw_txn.Committed.{Committed}
+use Rattle.txc_txn_rw.specs.RwCore.{RwValue}
+use Rattle.txc_txn_rw.specs.declared.rw_txn.Committed.{Committed}
 use Rattle.txc_site.specs.declared.error.GenerationError.{GenerationError}
 use Rattle.txc_site.specs.declared.error.GenerationError.TheVariants as generations
 use Rattle.txc_site.specs.declared.generations.OpeningCommit.{OpeningCommit}
-use Rattle.txc_site.specs.declared.generations.Served.{Served}
-use Rattle.txc_visits.specs.declared.plan.Plan.{Plan}
-use Rattle.txc_site.specs.declared.returning.Generation.{Generation}
-use Rattle.txc_visits.specs.Sites.{IsVisitRefused, HaveCome}
-use Rattle.txc_visits.specs.Tended.{IsTendedAsPlanned}
-use Rattle.txc_ledger.specs.Writes.{IsWritten}
+use Rattle.txc_site.specs.declared.generations.GenerationsResult.{GenerationsResult}
+use Rattle.txc_site_workers.specs.declared.plan.Plan.{Plan}
+use Rattle.txc_site.specs.declared.recurring.Generation.{Generation}
+use Rattle.txc_site_workers.specs.Sites.{AreWorkersRefused, HaveCome}
+use Rattle.txc_site_workers.specs.SiteKeeperByPlan.{IsTendedAsPlanned}
+use Rattle.txc_site_ledger.specs.ChangeResult.{IsWritten}
 
 -- the state after all events that a front shows
 abbrev pub last_state : FrontValue → State
@@ -68,7 +68,7 @@ IsLast before last all = all ≡ before ++ last ∷ []
 
 -- of a generation: an error of a visit; or its database gave no front of its whole history
 abbrev pub IsGenerationRefused : List ℕ → GenerationError → Type 0
-IsGenerationRefused numbers (generations.Visit error) = IsVisitRefused numbers error
+IsGenerationRefused numbers (generations.Workers error) = AreWorkersRefused numbers error
 IsGenerationRefused numbers (generations.Ended error) = (error ≡ databases.Memory) ⊎ (error ≡ databases.Broken)
 IsGenerationRefused numbers error = ⊥
 
@@ -110,7 +110,7 @@ committed_with opened front = record { stamp = opened.stamp; answers = opened.an
 -- Over a database whose history is stored by the plan, the opening was committed in its first run. The
 -- generations came after it.
 pub record IsServed {O T : Type 0} (next : Next) (plan : Plan) (tells : ℕ → Type 0) (count : ℕ) (numbers : List ℕ) (makes : RwValue → O → Type 0)
-    (gives : Plan → Name → ℕ → T → Type 0) (goes : Generation T → Bool → Type 0) (served : Served O T) : Type 0 where
+    (gives : Plan → Name → ℕ → T → Type 0) (goes : Generation T → Bool → Type 0) (served : GenerationsResult O T) : Type 0 where
   pub front : FrontValue
   pub room : IsHistoryFor plan.events front.events
   pub opened : IsWritten next front.events makes served.opening.output (committed_with served.opening front)

@@ -1,9 +1,9 @@
 //! Errors of generations.
 use std::alloc::AllocError;
 use thiserror::Error;
-use txc_carry::CarryError;
 use txc_db::DbError;
-use txc_visits::OpenError;
+use txc_db_carry::CarryError;
+use txc_site_workers::OpenError;
 
 /// Errors that end a site although its visitors asked for another generation.
 #[derive(Drop, Debug, Error)]
@@ -11,7 +11,7 @@ pub enum GenerationError {
     /// The site of a generation cannot be made, and no thread of it was started; or memory for the threads
     /// cannot be allocated, and their results are lost.
     #[error("{0}")]
-    Visit(OpenError),
+    Workers(OpenError),
     /// All threads of a generation had ended, and its database returned no front of its whole history: memory
     /// cannot be allocated, or it shows less than when the generation began. The results of the threads are
     /// lost.
@@ -27,12 +27,12 @@ pub enum GenerationError {
 
 impl From<OpenError> for GenerationError {
     ghost use Rattle.std.specs.Prelude.{◌≡◌};
-    ghost use Rattle.txc_site.specs.declared.error.GenerationError.TheVariants.{Visit};
+    ghost use Rattle.txc_site.specs.declared.error.GenerationError.TheVariants.{Workers};
 
-    ghost from_gives = { λ cause it. it ≡ Visit cause };
+    ghost from_gives = { λ cause it. it ≡ Workers cause };
 
     fn from(cause: OpenError) -> GenerationError {
-        GenerationError::Visit(cause)
+        GenerationError::Workers(cause)
     }
 }
 

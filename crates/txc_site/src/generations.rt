@@ -1,29 +1,32 @@
 //! A site in generations, one after the other.
 ghost use Rattle.std.specs.Prelude.{◌≡◌, ◌<◌, ◌⊎◌, [], All, Err, IfErr, IfOk, IfSome, length};
 ghost use mathlib.Core.List.{IsPrefix};
-ghost use Rattle.txc_carry.specs.Rooms.{IsHistoryFor};
+ghost use Rattle.txc_db_carry.specs.Rooms.{IsHistoryFor};
 ghost use Rattle.txc_db.specs.DatabaseValue.{front_of};
 ghost use Rattle.txc_site.specs.Generations.{HaveServed, IsGeneration, IsGenerationRefused, IsNextRefused, IsServed, IsShort, committed_with, last_state};
-ghost use Rattle.txc_site.specs.Opened.{IsOpenRefused};
-ghost use Rattle.txc_visits.specs.Plans.{IsPlan};
-ghost use Rattle.txc_visits.specs.Warming.{EndInOneState};
+ghost use Rattle.txc_site.specs.SiteResult.{IsOpenRefused};
+ghost use Rattle.txc_site_workers.specs.Plans.{IsPlan};
+ghost use Rattle.txc_site_workers.specs.CarriedEntries.{EndInOneState};
 
 use crate::error::GenerationError;
 use crate::opening::opened;
-use crate::returning::{Generation, Returning};
+use crate::recurring::{Generation, Recurring};
 use std::alloc::{AllocError, Global};
 use std::sync::Wait;
 use std::thread::Threads;
 use txc_app::App;
-use txc_carry::renew;
+use txc_call_definition::Definition;
 use txc_db::{Answered, DbCore, DbError, HistoryFront};
-use txc_definition::Definition;
-use txc_keeper::{Clock, CountedClock, SiteError};
-use txc_ledger::{Change, Written};
-use txc_rw::{Committed, Given};
-use txc_shared::LeftNode;
+use txc_db_carry::renew;
+use txc_shared::NodeRemains;
+use txc_site_keeper::{Clock, CountedClock, SiteError};
+use txc_site_ledger::{Change, ChangeResult};
+use txc_site_workers::{
+    CarriedEntries, FunctionTable, GenerationKind, OpenError, Plan, WorkerResults,
+    over_new_histories,
+};
 use txc_stamp::Stamp;
-use txc_visits::{Application, OpenError, Plan, Succession, Visits, Warmth, over_new_histories};
+use txc_txn_rw::{Committed, Given};
 
 /// Result of the opening of a site in generations, with its commit. It has no front, which would keep the log
 /// of the first generation in memory: that generation begins with it.
@@ -39,7 +42,7 @@ pub struct OpeningCommit<O> {
 
 /// Result of a site in all its generations.
 #[derive(Drop)]
-pub struct Served<O, T> {
+pub struct GenerationsResult<O, T> {
     /// Result of the opening, with its commit.
     pub opening: OpeningCommit<O>,
     /// Result of each thread of each generation, in the order of the generations and of the threads.
@@ -53,7 +56,7 @@ pub struct Served<O, T> {
 struct Begun<A: App> {
     core: DbCore,
     front: HistoryFront,
-    warmth: Option<Warmth<A>>,
+    carried_entries: Option<CarriedEntries<A>>,
 }
 
 /// The end of a generation.
@@ -61,7 +64,7 @@ struct Begun<A: App> {
 struct Ended<A: App, T> {
     generation: Generation<T>,
     core: DbCore,
-    left: Vec<LeftNode<A>>,
+    left: Vec<NodeRemains<A>>,
 }
 
 /// Returns a front of the whole history, which begins with the events seen before. Fails as `Broken` if the
@@ -82,7 +85,7 @@ fn whole_front(core: &DbCore, seen: &HistoryFront) -> Result<HistoryFront, DbErr
 }
 
 /// Runs one generation: it begins with this database, and ends once all threads have.
-#[tactic(auto, using(txc_visits::proofs::Tended::tended_at))]
+#[tactic(auto, using(txc_site_workers::proofs::Tended::tended_at))]
 fn generation<A, D, V, C, R>(
     rt: &R,
     alloc: Global,
@@ -90,21 +93,21 @@ fn generation<A, D, V, C, R>(
     begun: Begun<A>,
     number: usize,
     count: usize,
-    visitors: &V,
+    workers: &V,
     clock: &C,
 ) -> Result<Ended<A, V::Output>, GenerationError>
 where
-    A: Application<D> + Send + Sync,
+    A: FunctionTable<D> + Send + Sync,
     D: Definition + Send,
-    V: Returning<A, D> + Sync,
+    V: Recurring<A, D> + Sync,
     C: Clock + Sync,
     R: Threads + Wait + Sync,
     requires plan { IsPlan plan }
     requires row { begun.core.events ≡ begun.front.events }
     requires room { IsHistoryFor plan.events begun.front.events }
-    requires warm { IfSome begun.warmth (λ w. w.front.events ≡ begun.core.events) }
+    requires carried { IfSome begun.carried_entries (λ w. w.front.events ≡ begun.core.events) }
     ensures generation { IfOk result (λ ended.
-        IsGeneration plan (C.tells clock.now) count (V.gives visitors.now) ended.generation) }
+        IsGeneration plan (C.tells clock.now) count (V.gives workers.now) ended.generation) }
     ensures number { IfOk result (λ ended. ended.generation.number ≡ number) }
     ensures begun { IfOk result (λ ended. ended.generation.begun ≡ begun.front) }
     ensures ended { IfOk result (λ ended. ended.generation.ended ≡ front_of ended.core) }
@@ -114,16 +117,16 @@ where
     let Begun {
         core,
         front: begun,
-        warmth,
+        carried_entries,
     } = begun;
-    let succession = Succession::InTurn(warmth);
+    let succession = GenerationKind::InTurn(carried_entries);
     let visits = over_new_histories::<A, D, V, C, R>(
-        rt, alloc, plan, core, succession, count, visitors, clock,
+        rt, alloc, plan, core, succession, count, workers, clock,
     )?;
-    let Visits {
+    let WorkerResults {
         outputs,
         tended,
-        numbers,
+        stats,
         core,
         left,
     } = visits;
@@ -134,7 +137,7 @@ where
         ended,
         outputs,
         tended,
-        numbers,
+        stats,
     };
     Ok(Ended {
         generation,
@@ -145,11 +148,11 @@ where
 
 /// Returns the entries for the nodes of the next generation, or `None` if there is no front of the whole
 /// history.
-fn warmth<A: App>(
-    left: Vec<LeftNode<A>>,
+fn carried_entries<A: App>(
+    left: Vec<NodeRemains<A>>,
     whole: Result<HistoryFront, AllocError>,
     front: &HistoryFront,
-) -> Option<Warmth<A>>
+) -> Option<CarriedEntries<A>>
     requires seen { IfOk whole (λ whole. All (λ left. left.seen.events ≡ whole.events) left.items) }
     requires state { IfOk whole (λ whole. EndInOneState whole front.now) }
     ensures { IfSome result (λ w. w.front ≡ front.now) }
@@ -160,7 +163,7 @@ fn warmth<A: App>(
     let Ok(front) = front.again() else {
         return None;
     };
-    Some(Warmth {
+    Some(CarriedEntries {
         nodes: left,
         whole,
         front,
@@ -173,13 +176,13 @@ fn next<A: App>(
     alloc: Global,
     plan: Plan,
     mut core: DbCore,
-    left: Vec<LeftNode<A>>,
+    left: Vec<NodeRemains<A>>,
 ) -> Result<Begun<A>, GenerationError>
     requires plan { IsPlan plan }
     requires left { All (λ left. left.seen.events ≡ core.events) left.items }
     ensures row { IfOk result (λ begun. begun.core.events ≡ begun.front.events) }
     ensures room { IfOk result (λ begun. IsHistoryFor plan.events begun.front.events) }
-    ensures warm { IfOk result (λ begun. IfSome begun.warmth (λ w. w.front.events ≡ begun.core.events)) }
+    ensures carried { IfOk result (λ begun. IfSome begun.carried_entries (λ w. w.front.events ≡ begun.core.events)) }
     ensures state { IfOk result (λ begun. last_state begun.front ≡ last_state (front_of core)) }
     ensures anew { IfOk result (λ begun. IsShort begun.front) }
     ensures refused { IfErr result (IsNextRefused plan.events (front_of core)) }
@@ -189,21 +192,21 @@ fn next<A: App>(
         return Err(GenerationError::Carry(cause));
     }
     let front = core.front()?;
-    let warmth = warmth(left, whole, &front);
+    let carried_entries = carried_entries(left, whole, &front);
     Ok(Begun {
         core,
         front,
-        warmth,
+        carried_entries,
     })
 }
 
 /// Splits the result of the opening from the front of its commit.
-fn parts<O>(written: Written<O>) -> (OpeningCommit<O>, HistoryFront)
+fn parts<O>(written: ChangeResult<O>) -> (OpeningCommit<O>, HistoryFront)
     ensures output { result.0.output ≡ written.output }
     ensures committed { committed_with result.0 result.1 ≡ written.committed }
     ensures conflicts { result.0.conflicts ≡ written.conflicts }
 {
-    let Written {
+    let ChangeResult {
         output,
         committed,
         conflicts,
@@ -229,23 +232,23 @@ pub fn with_generations<A, D, O, V, R>(
     plan: Plan,
     opening: &O,
     count: usize,
-    visitors: &V,
-) -> Result<Served<O::Output, V::Output>, OpenError>
+    workers: &V,
+) -> Result<GenerationsResult<O::Output, V::Output>, OpenError>
 where
-    A: Application<D> + Send + Sync,
+    A: FunctionTable<D> + Send + Sync,
     D: Definition + Send,
     O: Change<A, D>,
-    V: Returning<A, D> + Sync,
+    V: Recurring<A, D> + Sync,
     R: Threads + Wait + Sync,
     ensures served { IfOk result (IsServed A.next plan (λ now. Unit {0}) count A.numbers
-        (O.makes opening.now) (V.gives visitors.now) (V.goes visitors.now)) }
+        (O.makes opening.now) (V.gives workers.now) (V.continues workers.now)) }
     ensures unsound { ¬ (IsPlan plan) → result ≡ Err (OpenError.Site SiteError.Plan) }
     ensures refused { IfErr result
         (IsOpenRefused plan A.numbers (O.makes opening.now) (O.refuses opening.now)) }
 {
     let clock = CountedClock::new();
     with_generations_at::<A, D, O, V, CountedClock, R>(
-        rt, alloc, plan, opening, count, visitors, &clock,
+        rt, alloc, plan, opening, count, workers, &clock,
     )
 }
 
@@ -262,18 +265,18 @@ pub fn with_generations_at<A, D, O, V, C, R>(
     plan: Plan,
     opening: &O,
     count: usize,
-    visitors: &V,
+    workers: &V,
     clock: &C,
-) -> Result<Served<O::Output, V::Output>, OpenError>
+) -> Result<GenerationsResult<O::Output, V::Output>, OpenError>
 where
-    A: Application<D> + Send + Sync,
+    A: FunctionTable<D> + Send + Sync,
     D: Definition + Send,
     O: Change<A, D>,
-    V: Returning<A, D> + Sync,
+    V: Recurring<A, D> + Sync,
     C: Clock + Sync,
     R: Threads + Wait + Sync,
     ensures served { IfOk result (IsServed A.next plan (C.tells clock.now) count A.numbers
-        (O.makes opening.now) (V.gives visitors.now) (V.goes visitors.now)) }
+        (O.makes opening.now) (V.gives workers.now) (V.continues workers.now)) }
     ensures unsound { ¬ (IsPlan plan) → result ≡ Err (OpenError.Site SiteError.Plan) }
     ensures refused { IfErr result
         (IsOpenRefused plan A.numbers (O.makes opening.now) (O.refuses opening.now)) }
@@ -291,14 +294,14 @@ where
         Begun {
             core,
             front,
-            warmth: None,
+            carried_entries: None,
         },
         count,
-        visitors,
+        workers,
         clock,
         &mut generations,
     );
-    Ok(Served {
+    Ok(GenerationsResult {
         opening,
         generations,
         end,
@@ -313,22 +316,22 @@ fn go_on<A, D, V, C, R>(
     plan: Plan,
     begun: Begun<A>,
     count: usize,
-    visitors: &V,
+    workers: &V,
     clock: &C,
     generations: &mut Vec<Vec<V::Output>>,
 ) -> Result<(), GenerationError>
 where
-    A: Application<D> + Send + Sync,
+    A: FunctionTable<D> + Send + Sync,
     D: Definition + Send,
-    V: Returning<A, D> + Sync,
+    V: Recurring<A, D> + Sync,
     C: Clock + Sync,
     R: Threads + Wait + Sync,
     requires plan { IsPlan plan }
     requires row { begun.core.events ≡ begun.front.events }
     requires room { IsHistoryFor plan.events begun.front.events }
-    requires warm { IfSome begun.warmth (λ w. w.front.events ≡ begun.core.events) }
+    requires carried { IfSome begun.carried_entries (λ w. w.front.events ≡ begun.core.events) }
     requires none { generations.old.items ≡ [] }
-    ensures { HaveServed plan (C.tells clock.now) count A.numbers (V.gives visitors.now) (V.goes visitors.now)
+    ensures { HaveServed plan (C.tells clock.now) count A.numbers (V.gives workers.now) (V.continues workers.now)
         begun.front generations.new.items result }
 {
     let mut begun = begun;
@@ -336,16 +339,16 @@ where
         generations.reserve(1)?;
         let number = generations.len();
         let ended = generation::<A, D, V, C, R>(
-            rt, alloc, plan, begun, number, count, visitors, clock,
+            rt, alloc, plan, begun, number, count, workers, clock,
         )?;
         let Ended {
             generation,
             core,
             left,
         } = ended;
-        let goes_on = visitors.goes_on(&generation);
+        let should_continue = workers.should_continue(&generation);
         generations.push_reserved(generation.outputs);
-        if !goes_on {
+        if !should_continue {
             return Ok(());
         }
         begun = next(alloc, plan, core, left)?;

@@ -1,41 +1,41 @@
 //! Opening a site.
 ghost use Rattle.std.specs.Prelude.{◌≡◌, Err, IfErr, IfOk, length, vec_len};
-ghost use Rattle.txc_carry.specs.Rooms.{IsHistoryFor};
-ghost use Rattle.txc_db.specs.Shared.{IsDatabaseOf};
-ghost use Rattle.txc_site.specs.Opened.{IsOpeningRefused, IsOpenRefused, IsVisited};
-ghost use Rattle.txc_visits.specs.Plans.{IsPlan};
-ghost use Rattle.txc_visits.specs.Sites.{IsDatabaseRefused};
-ghost use Rattle.txc_visits.specs.Tended.{IsTendedAsPlanned};
-ghost use Rattle.txc_ledger.specs.Writes.{IsWritten};
+ghost use Rattle.txc_db_carry.specs.Rooms.{IsHistoryFor};
+ghost use Rattle.txc_db.specs.DatabaseReply.{IsDatabaseOf};
+ghost use Rattle.txc_site.specs.SiteResult.{IsOpeningRefused, IsOpenRefused, IsVisited};
+ghost use Rattle.txc_site_workers.specs.Plans.{IsPlan};
+ghost use Rattle.txc_site_workers.specs.Sites.{IsDatabaseRefused};
+ghost use Rattle.txc_site_workers.specs.SiteKeeperByPlan.{IsTendedAsPlanned};
+ghost use Rattle.txc_site_ledger.specs.ChangeResult.{IsWritten};
 
 use std::alloc::Global;
 use std::marker::Brand;
 use std::sync::Wait;
 use std::thread::Threads;
-use txc_carry::new_database;
+use txc_call_definition::Definition;
+use txc_call_permits::PermitPool;
 use txc_db::{DbCore, Naming};
-use txc_definition::Definition;
-use txc_keeper::{Clock, CountedClock, SiteError, Tended};
-use txc_ledger::{Change, Ledger, Written, write_change};
-use txc_permits::PermitPool;
-use txc_visits::{
-    Application, LastState, Numbers, OpenError, Plan, Succession, Visitor, Visits,
+use txc_db_carry::new_database;
+use txc_site_keeper::{Clock, CountedClock, KeeperTotals, SiteError};
+use txc_site_ledger::{Change, ChangeResult, Ledger, write_change};
+use txc_site_workers::{
+    FinalState, FunctionTable, GenerationKind, OpenError, Plan, SiteStats, Worker, WorkerResults,
     over_new_histories, registry,
 };
 
 /// Result of a site.
 #[derive(Drop)]
-pub struct Visited<O, T> {
+pub struct SiteResult<O, T> {
     /// Result of the opening, with its commit.
-    pub opening: Written<O>,
+    pub opening: ChangeResult<O>,
     /// Result of each thread, in the order of their numbers.
     pub outputs: Vec<T>,
     /// Result of the automatic maintenance, or its error; `None` if the plan has none.
-    pub tended: Option<Result<Tended, SiteError>>,
+    pub tended: Option<Result<KeeperTotals, SiteError>>,
     /// Counts of the threads' work in all.
-    pub numbers: Numbers,
+    pub stats: SiteStats,
     /// The state after them.
-    pub last: LastState,
+    pub last: FinalState,
 }
 
 /// Makes a new database, by the plan.
@@ -57,22 +57,22 @@ pub fn with_site<A, D, O, V, R>(
     plan: Plan,
     opening: &O,
     count: usize,
-    visitors: &V,
-) -> Result<Visited<O::Output, V::Output>, OpenError>
+    workers: &V,
+) -> Result<SiteResult<O::Output, V::Output>, OpenError>
 where
-    A: Application<D> + Send + Sync,
+    A: FunctionTable<D> + Send + Sync,
     D: Definition + Send,
     O: Change<A, D>,
-    V: Visitor<A, D> + Sync,
+    V: Worker<A, D> + Sync,
     R: Threads + Wait + Sync,
     ensures visited { IfOk result
-        (IsVisited A.next plan count (O.makes opening.now) (V.gives visitors.now)) }
+        (IsVisited A.next plan count (O.makes opening.now) (V.gives workers.now)) }
     ensures unsound { ¬ (IsPlan plan) → result ≡ Err (OpenError.Site SiteError.Plan) }
     ensures refused { IfErr result
         (IsOpenRefused plan A.numbers (O.makes opening.now) (O.refuses opening.now)) }
 {
     let clock = CountedClock::new();
-    with_clock::<A, D, O, V, CountedClock, R>(rt, alloc, plan, opening, count, visitors, &clock)
+    with_clock::<A, D, O, V, CountedClock, R>(rt, alloc, plan, opening, count, workers, &clock)
 }
 
 /// Opens a site: makes it by the plan, writes the opening in one read-write transaction, and then starts
@@ -83,25 +83,25 @@ where
 ///
 /// The threads have the numbers from 0, and outputs come in that order. If a thread cannot be made, some run
 /// one after the other, so none may wait for another.
-#[tactic(auto, using(crate::proofs::Opened::visit_so, txc_visits::proofs::Tended::tended_at))]
+#[tactic(auto, using(crate::proofs::Opened::visit_so, txc_site_workers::proofs::Tended::tended_at))]
 pub fn with_clock<A, D, O, V, C, R>(
     rt: &R,
     alloc: Global,
     plan: Plan,
     opening: &O,
     count: usize,
-    visitors: &V,
+    workers: &V,
     clock: &C,
-) -> Result<Visited<O::Output, V::Output>, OpenError>
+) -> Result<SiteResult<O::Output, V::Output>, OpenError>
 where
-    A: Application<D> + Send + Sync,
+    A: FunctionTable<D> + Send + Sync,
     D: Definition + Send,
     O: Change<A, D>,
-    V: Visitor<A, D> + Sync,
+    V: Worker<A, D> + Sync,
     C: Clock + Sync,
     R: Threads + Wait + Sync,
     ensures visited { IfOk result
-        (IsVisited A.next plan count (O.makes opening.now) (V.gives visitors.now)) }
+        (IsVisited A.next plan count (O.makes opening.now) (V.gives workers.now)) }
     ensures tended { IfOk result (λ visited.
         IsTendedAsPlanned plan (C.tells clock.now) visited.last.events visited.tended) }
     ensures unsound { ¬ (IsPlan plan) → result ≡ Err (OpenError.Site SiteError.Plan) }
@@ -112,23 +112,23 @@ where
         return Err(OpenError::Site(SiteError::Plan));
     }
     let (opening, core) = opened::<A, D, O, R>(rt, alloc, plan, opening)?;
-    let alone = Succession::Alone;
+    let alone = GenerationKind::Alone;
     let visits = over_new_histories::<A, D, V, C, R>(
-        rt, alloc, plan, core, alone, count, visitors, clock,
+        rt, alloc, plan, core, alone, count, workers, clock,
     )?;
-    let Visits {
+    let WorkerResults {
         outputs,
         tended,
-        numbers,
+        stats,
         core,
         left: _,
     } = visits;
-    Ok(Visited {
+    Ok(SiteResult {
         opening,
         outputs,
         tended,
-        numbers,
-        last: LastState::new(core, plan),
+        stats,
+        last: FinalState::new(core, plan),
     })
 }
 
@@ -139,9 +139,9 @@ pub(crate) fn opened<A, D, O, R>(
     alloc: Global,
     plan: Plan,
     opening: &O,
-) -> Result<(Written<O::Output>, DbCore), OpenError>
+) -> Result<(ChangeResult<O::Output>, DbCore), OpenError>
 where
-    A: Application<D>,
+    A: FunctionTable<D>,
     D: Definition,
     O: Change<A, D>,
     R: Wait,
@@ -164,9 +164,9 @@ fn open<A, D, O, J, R>(
     plan: Plan,
     core: DbCore,
     opening: &O,
-) -> Result<(Written<O::Output>, DbCore), OpenError>
+) -> Result<(ChangeResult<O::Output>, DbCore), OpenError>
 where
-    A: Application<D>,
+    A: FunctionTable<D>,
     D: Definition,
     O: Change<A, D>,
     J: Naming,

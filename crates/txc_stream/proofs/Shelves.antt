@@ -1,7 +1,7 @@
 -- What is left on a shelf.
 use Rattle.std.proofs.Common.{◌≡◌, ℕ, zero, suc, ◌<◌, List, [], ◌∷◌, ◌++◌, length, refl, sym, ap, ◌∙◌, append_assoc, arith}
 use Rattle.std.specs.List.{remove}
-use Rattle.txc_stream.specs.Posted.{AreLeft}
+use Rattle.txc_stream.specs.Published.{AreLeft}
 
 -- all
 pub left_all : {A : Type 0} (xs : List A) → AreLeft xs xs

@@ -34,7 +34,7 @@ use Rattle.std.proofs.raw_atomic.Walks.{leaves}
 use Rattle.txc_stream.specs.Names.{Name, stored, unstored}
 use Rattle.txc_stream.specs.Seen.{stand, growing_lists, written, reached, begins, IsCellAt, IsCellAfter, with_known}
 use Rattle.txc_stream.specs.contracts.seen.Seen as seen
-use Rattle.txc_stream.specs.contracts.pen.Pen as pen
+use Rattle.txc_stream.specs.contracts.append_token.AppendToken as pen
 use Rattle.txc_stream.proofs.Codes.{prefix_in, prefix_out, prefixes_out}
 
 -- two lists with the same first element
@@ -112,8 +112,8 @@ module _ {M : Type 1} {𝓤 : Ura M} (𝓛 : Logic 𝓤) (R : RattleType) where
 
   -- ---- histories that exist in the proofs alone
 
-  abbrev pub Pen : RattleType
-  Pen = pen.the_row R
+  abbrev pub AppendToken : RattleType
+  AppendToken = pen.the_row R
 
   abbrev pub Blank : Fml
   Blank = (Struct (shape (pen.the_type R))).own_val (tt, tt) (token ∷ [])

@@ -2,7 +2,7 @@
 use Rattle.std.specs.Prelude.{◌≡◌, ℕ, ◌≤◌, List, [], ◌∷◌, length, drop, refl}
 use Rattle.std.specs.Coded.{Coded, code_by, coded×, coded_list, coded_ℕ}
 use Rattle.txc_stream.specs.Names.{Name, unstored, coded_name}
-use Rattle.txc_stream.specs.Shown.{Shown}
+use Rattle.txc_stream.specs.FrontValue.{Shown}
 
 -- the history's identity, its records, how many of them have no note any more, and for how many more notes
 -- there is room

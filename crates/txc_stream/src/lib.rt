@@ -5,34 +5,34 @@
 //! that it has seen so far, and each call that sees one more lengthens it. Of any two fronts of one history,
 //! one is a prefix of the other, whichever threads they come from: callers who compare fronts can rely on that.
 //!
-//! A ghost history uses no memory and has no end. The owner of its [`Pen`] lengthens it, and each front of it
+//! A ghost history uses no memory and has no end. The owner of its [`AppendToken`] lengthens it, and each front of it
 //! shows a prefix of what the pen has written.
 //!
 //! A [`Window`] keeps a note of each of the last records of a ghost history. Notes can also be posted, in
-//! segments of cells: a [`Walker`] reads them one after the other, and a segment that each walker has passed is
+//! segments of cells: a [`Cursor`] reads them one after the other, and a segment that each walker has passed is
 //! dropped.
 #![tactic(auto)]
 
-mod draft;
+mod append_token;
+mod cursor;
+mod ghost_record;
 mod laws;
-mod pen;
-mod posted;
-mod poster;
+mod published;
+mod publisher;
 mod row;
 mod seen;
 mod segment;
-mod walker;
 mod window;
 
-pub use draft::{Draft, Drafts};
+pub use append_token::AppendToken;
+pub use cursor::Cursor;
+pub use ghost_record::{GhostRecord, GhostRecords};
 pub use laws::{
     longer_of_two, prefix_length, prefix_of_appended, prefix_of_itself, prefix_of_prefix,
     prefix_places,
 };
-pub use pen::Pen;
-pub use posted::{Posted, Posts};
-pub use poster::{Poster, Slip};
+pub use published::{Published, Publishes};
+pub use publisher::{NextCell, Publisher};
 pub use row::{AppendError, EventRow, Front, MAX_CAPACITY, Refused};
 pub use segment::{SEGMENT_LEN, Segment};
-pub use walker::Walker;
-pub use window::{Noted, Window};
+pub use window::{Window, Witnessed};

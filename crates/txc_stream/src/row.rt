@@ -1,6 +1,6 @@
 ghost use Rattle.std.specs.Prelude.{◌≡◌, ℕ, ◌+◌, ◌^◌, ◌<◌, ◌≤◌, ◌++◌, ◌∷◌, ◌⊎◌, [], length, Some, IfOk, OnOk, IfErr, IfSome, MatchOption, slice_get, ◌↔◌, IsSome, IsNone, IsTrue};
 ghost use Rattle.txc_stream.specs.Names.{stored, HasRow};
-ghost use Rattle.txc_stream.specs.Shown.{HasCells, shown_by_seen};
+ghost use Rattle.txc_stream.specs.FrontValue.{HasCells, shown_by_seen};
 ghost use Rattle.txc_stream.specs.Seen.{IsCellAfter};
 ghost use mathlib.Core.List.{IsPrefix};
 
@@ -22,7 +22,7 @@ pub struct EventRow<T> {
 
 impl<T> Model for EventRow<T> {
     ghost use Rattle.std.specs.Prelude.{List, ℕ, length};
-    ghost use Rattle.txc_stream.specs.Shown.{names_of, IsCapacity};
+    ghost use Rattle.txc_stream.specs.FrontValue.{names_of, IsCapacity};
 
     ghost Value = { List ℕ };
 
@@ -51,7 +51,7 @@ pub struct Front<T> {
 }
 
 impl<T> Model for Front<T> {
-    ghost use Rattle.txc_stream.specs.Shown.{Shown, shown_code, shown_by_seen, IsSeen};
+    ghost use Rattle.txc_stream.specs.FrontValue.{Shown, shown_code, shown_by_seen, IsSeen};
 
     ghost Value = { Shown T };
 
@@ -187,7 +187,7 @@ impl<T> EventRow<T> {
 }
 
 impl<T: Drop> EventRow<T> {
-    ghost use Rattle.txc_stream.specs.Append.{handed_back, IsFull, StandsNext};
+    ghost use Rattle.txc_stream.specs.AppendRefusal.{handed_back, IsFull, StandsNext};
 
     /// Sets the cell after the front to the record, and lengthens the front by it. Fails, and changes nothing,
     /// only if the row is full or the cell is already set.

@@ -2,10 +2,10 @@
 
 ghost use Rattle.std.specs.Prelude.{◌≡◌, ◌<◌, ◌++◌, ◌∷◌, [], true, length, IfOk, IfSome, OnOk, OnErr};
 ghost use Rattle.std.specs.Arc.{arc_value};
-ghost use Rattle.txc_stream.specs.Posted.{AreLeft};
+ghost use Rattle.txc_stream.specs.Published.{AreLeft};
 ghost use Rattle.txc_stream.specs.declared.segment.TheConstants.{SEGMENT_LEN};
 
-use crate::posted::{Posted, Posts};
+use crate::published::{Published, Publishes};
 use crate::row::EventRow;
 use std::alloc::{AllocError, Global};
 use std::sync::Arc;
@@ -15,12 +15,12 @@ pub const SEGMENT_LEN: usize = 1_024;
 
 /// Cells for a run of records, in order: those after the first `from`. A cell set to nothing was cancelled.
 #[derive(Drop)]
-pub struct Segment<T, N, P: Posts<T, N>> {
-    pub(crate) cells: EventRow<Option<Posted<T, N, P>>>,
+pub struct Segment<T, N, P: Publishes<T, N>> {
+    pub(crate) cells: EventRow<Option<Published<T, N, P>>>,
     pub(crate) from: usize,
 }
 
-impl<T, N, P: Posts<T, N>> Segment<T, N, P> {
+impl<T, N, P: Publishes<T, N>> Segment<T, N, P> {
     pub(crate) fn new(alloc: Global, from: usize) -> Result<Segment<T, N, P>, AllocError>
         ensures { IfOk result (λ segment. (segment.from ≡ from) × (length segment.cells ≡ SEGMENT_LEN)) }
     {
@@ -31,16 +31,16 @@ impl<T, N, P: Posts<T, N>> Segment<T, N, P> {
 
 /// The segments in which a walker or the poster may still be, the earliest first.
 #[derive(Drop)]
-pub(crate) struct Shelf<T, N, P: Posts<T, N>> {
+pub(crate) struct LiveSegments<T, N, P: Publishes<T, N>> {
     segments: Vec<Arc<Segment<T, N, P>>>,
 }
 
-impl<T: Drop, N: Drop, P: Posts<T, N>> Shelf<T, N, P> {
+impl<T: Drop, N: Drop, P: Publishes<T, N>> LiveSegments<T, N, P> {
     /// Makes an empty shelf.
-    pub(crate) fn new(alloc: Global) -> Shelf<T, N, P>
+    pub(crate) fn new(alloc: Global) -> LiveSegments<T, N, P>
         ensures { result.segments.items ≡ [] }
     {
-        Shelf {
+        LiveSegments {
             segments: Vec::new(alloc),
         }
     }

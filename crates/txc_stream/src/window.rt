@@ -4,15 +4,15 @@ ghost use Rattle.std.specs.Prelude.{◌≡◌, ◌+◌, ◌^◌, ◌<◌, ◌≤
 ghost use Rattle.txc_stream.specs.Names.{unstored};
 ghost use Rattle.txc_stream.specs.Windows.{front_of_window};
 
-use crate::draft::Draft;
-use crate::pen::Pen;
+use crate::append_token::AppendToken;
+use crate::ghost_record::GhostRecord;
 use crate::row::Front;
 use std::alloc::{AllocError, Global};
 use std::collections::VecDeque;
 use std::marker::{Model, PhantomData};
 
 /// The notes that belong to a record.
-pub trait Noted<T, N> {
+pub trait Witnessed<T, N> {
     ghost notes: { T → N → Type 0 };
 }
 
@@ -21,15 +21,15 @@ pub trait Noted<T, N> {
 /// Contracts see the history's identity, its records, how many of the first have no note any more, and for how
 /// many more notes there is room.
 #[derive(Drop)]
-pub struct Window<T, N, M: Noted<T, N>> {
-    pen: Pen<T>,
+pub struct Window<T, N, M: Witnessed<T, N>> {
+    pen: AppendToken<T>,
     front: Front<T>,
     first: usize,
     notes: VecDeque<N>,
     of: PhantomData<M>,
 }
 
-impl<T, N, M: Noted<T, N>> Model for Window<T, N, M> {
+impl<T, N, M: Witnessed<T, N>> Model for Window<T, N, M> {
     ghost use Rattle.std.specs.Prelude.{◌-◌};
     ghost use Rattle.std.specs.VecDeque.{deque_len, deque_capacity};
     ghost use Rattle.txc_stream.specs.Windows.{WindowValue, window_code, IsWindow};
@@ -48,9 +48,9 @@ impl<T, N, M: Noted<T, N>> Model for Window<T, N, M> {
     ghost invariant = { λ w. IsWindow M.notes w.pen.number w.pen.list w.front w.first w.notes.items };
 }
 
-impl<T, N, M: Noted<T, N>> Window<T, N, M> {
+impl<T, N, M: Witnessed<T, N>> Window<T, N, M> {
     /// Makes a window over the pen's history, which has no records yet.
-    pub fn new(alloc: Global, mut pen: Pen<T>) -> Window<T, N, M>
+    pub fn new(alloc: Global, mut pen: AppendToken<T>) -> Window<T, N, M>
         requires { pen.list ≡ [] }
         ensures name { result.name ≡ unstored pen.number }
         ensures list { result.list ≡ [] }
@@ -67,7 +67,7 @@ impl<T, N, M: Noted<T, N>> Window<T, N, M> {
     }
 
     /// Makes a window over the pen's history, which begins with this record. It has no note of it.
-    pub fn begun(alloc: Global, mut pen: Pen<T>, draft: Draft<T>) -> Window<T, N, M>
+    pub fn begun(alloc: Global, mut pen: AppendToken<T>, draft: GhostRecord<T>) -> Window<T, N, M>
         requires { pen.list ≡ [] }
         ensures name { result.name ≡ unstored pen.number }
         ensures list { result.list ≡ draft.value ∷ [] }
@@ -118,7 +118,7 @@ impl<T, N, M: Noted<T, N>> Window<T, N, M> {
     }
 
     /// Appends the drafted record, with its note. It cannot fail.
-    pub fn append(&mut self, note: N, draft: Draft<T>)
+    pub fn append(&mut self, note: N, draft: GhostRecord<T>)
         requires noted { M.notes draft.value note }
         requires room { 0 < self.old.room }
         requires counted { length self.old.list + 1 < 2 ^ 64 }
@@ -132,7 +132,7 @@ impl<T, N, M: Noted<T, N>> Window<T, N, M> {
     }
 }
 
-impl<T, N: Drop, M: Noted<T, N>> Window<T, N, M> {
+impl<T, N: Drop, M: Witnessed<T, N>> Window<T, N, M> {
     // Drops the first note.
     fn forget_first(&mut self)
         requires { self.old.first < length self.old.list }

@@ -8,7 +8,7 @@ use Rattle.std.proofs.lemmas.Str.{digit_value_digit}
 use Rattle.std.proofs.lemmas.Str.Parse.{digits_value-take-le, digit_from_value}
 use Rattle.std.proofs.lemmas.Int.Digits.{digits_value_push}
 use Rattle.txc_tags.specs.TextNumber.{IsDigit, digits_read}
-use Rattle.txc_tags.specs.TextReading.{IsWord, IsNumber, IsNumbered, NoneGoesOn, GoesWrong}
+use Rattle.txc_tags.specs.TextReader.{IsWord, IsNumber, IsNumbered, NoneGoesOn, GoesWrong}
 use Rattle.txc_tags.proofs.TextReading.{Solid, split, solid_apart, then_solid, word_apart, word_solid}
 
 -- what stands in a text of digits is a digit

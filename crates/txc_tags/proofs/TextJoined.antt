@@ -5,7 +5,7 @@ use Rattle.std.proofs.lemmas.List.{flat_map_more}
 use Rattle.std.proofs.lemmas.List.Elements.{All-head, All-tail, All-nil, All-cons, All-push}
 use Rattle.txc_tags.specs.TextGrammar.{IsText}
 use Rattle.txc_tags.specs.TextNumber.{BeginsWithNoDigit}
-use Rattle.txc_tags.specs.TextReading.{NoneGoesOn, Reads, GoesWrong, IsRefused, IsMore, IsJoined, HasRead}
+use Rattle.txc_tags.specs.TextReader.{NoneGoesOn, Reads, GoesWrong, IsRefused, IsMore, IsJoined, HasRead}
 use Rattle.txc_tags.proofs.TextReading.{Apart, Solid, solid_apart, solid_none, split, first_wrong, wrong_refused, then_refused}
 
 -- they are the first, and each other with a comma before it

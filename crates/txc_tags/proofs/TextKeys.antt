@@ -11,8 +11,8 @@ use Rattle.txc_tags.specs.Keys.{Call}
 use Rattle.txc_tags.specs.TextGrammar.{IsText, IsTextOf}
 use Rattle.txc_tags.specs.TextNumber.{IsDigit}
 use Rattle.txc_tags.specs.TextKey.{key_text, IsKeyInRange}
-use Rattle.txc_tags.specs.TextKeyReading.{closed_text, AreArguments, AreSome}
-use Rattle.txc_tags.specs.TextReading.{IsWord, IsNumber, IsNumbered, Then, Either, Reads, GoesWrong, IsRefused, IsMore, HasRead}
+use Rattle.txc_tags.specs.TextKeyReader.{closed_text, AreArguments, AreSome}
+use Rattle.txc_tags.specs.TextReader.{IsWord, IsNumber, IsNumbered, Then, Either, Reads, GoesWrong, IsRefused, IsMore, HasRead}
 use Rattle.txc_tags.proofs.TextReading.{Apart, Distinct, Solid, solid_apart, word_apart, alike_refused, first_wrong, first_reads, then_refused, wrong_refused, trailing_refused, other_refused, other_byte}
 use Rattle.txc_tags.proofs.TextDigits.{number_solid, numbered_solid, numbered_known}
 use Rattle.txc_tags.proofs.TextJoined as joined

@@ -5,7 +5,7 @@ use Rattle.std.proofs.lemmas.Bool.Decides.{nat_tests}
 use Rattle.std.specs.Result.{IsErrAnd}
 use Rattle.txc_tags.specs.TextGrammar.{IsText, IsPrefix, IsLongestPrefix}
 use Rattle.txc_tags.specs.TextNumber.{IsDigit, BeginsWithNoDigit}
-use Rattle.txc_tags.specs.TextReading.{IsWord, Then, Either, NoneGoesOn, Reads, Stops, GoesWrong, IsRefused}
+use Rattle.txc_tags.specs.TextReader.{IsWord, Then, Either, NoneGoesOn, Reads, Stops, GoesWrong, IsRefused}
 
 -- two texts that begin one text are one, or one of them goes on after the other
 abbrev pub Compared : List ℕ → List ℕ → List ℕ → List ℕ → Type 0

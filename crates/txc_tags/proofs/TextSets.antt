@@ -9,7 +9,7 @@ use Rattle.txc_tags.specs.declared.text.tag.Spelling.{Spelling}
 use Rattle.txc_tags.specs.declared.text.tag.Spelling.TheVariants.{Usual}
 use Rattle.txc_tags.specs.Tags.{with_tag, set_of, IsCanonical}
 use Rattle.txc_tags.specs.TextGrammar.{IsText, IsTextOf}
-use Rattle.txc_tags.specs.TextReading.{IsWord, Either, Reads, GoesWrong, IsRefused, IsJoined, HasRead}
+use Rattle.txc_tags.specs.TextReader.{IsWord, Either, Reads, GoesWrong, IsRefused, IsJoined, HasRead}
 use Rattle.txc_tags.specs.TextTag.{tag_text, SpeltTag, spelled, spelt_text, IsTagInRange, IsSpeltInRange}
 use Rattle.txc_tags.specs.TextSet.{tags_text, spelt_tags_text, AreTagsInRange, AreSpeltInRange, tags_spelt, IsSetOfText}
 use Rattle.txc_tags.proofs.Sixteen.{set_of_set, with_tags_push}

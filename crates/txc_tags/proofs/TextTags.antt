@@ -9,10 +9,10 @@ use Rattle.txc_tags.specs.declared.tag.Tag.{Tag}
 use Rattle.txc_tags.specs.declared.text.tag.Spelling.{Spelling}
 use Rattle.txc_tags.specs.declared.text.tag.Spelling.TheVariants.{Usual, Slashed}
 use Rattle.txc_tags.specs.TextNumber.{IsDigit, BeginsWithNoDigit}
-use Rattle.txc_tags.specs.TextReading.{IsWord, IsNumbered, Then, Either, Reads, GoesWrong}
+use Rattle.txc_tags.specs.TextReader.{IsWord, IsNumbered, Then, Either, Reads, GoesWrong}
 use Rattle.txc_tags.specs.TextTag.{opening, all_word, id_word, group_word, rows_text, spelled, SpeltTag, spelt_text, AreRowsInRange, IsTagInRange, IsSpeltInRange}
 use Rattle.txc_tags.specs.TextGrammar.{IsText}
-use Rattle.txc_tags.specs.TextTagReading.{IsRows, IsSpelled}
+use Rattle.txc_tags.specs.TextTagReader.{IsRows, IsSpelled}
 use Rattle.txc_tags.proofs.TextReading.{IsFurther, Apart, Distinct, Differ, Solid, distinct, word_begins, then_begins, solid_apart, word_solid, then_solid, either_solid, alike_reads, alike_wrong, first_reads, second_reads, further_wrong, then_reads, then_wrong, first_wrong}
 use Rattle.txc_tags.proofs.TextDigits.{numbered_solid, numbered_known, digit_first}
 

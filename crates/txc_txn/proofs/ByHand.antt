@@ -3,19 +3,19 @@ use Rattle.std.proofs.Common.{◌≡◌, ◌≢◌, List, [], ◌∷◌, Some, N
 use Rattle.txc_call.specs.declared.frame.Frame.{Frame}
 use Rattle.txc_call.specs.declared.need.Outcome.{Outcome}
 use Rattle.txc_call.specs.declared.reply.Reply.{Reply}
-use Rattle.txc_call.specs.Running.{need_after, value_need}
-use Rattle.txc_call.specs.Turns.{outcome_of}
+use Rattle.txc_call.specs.CallSteps.{need_after, value_need}
+use Rattle.txc_call.specs.MachineTurn.{outcome_of}
 use Rattle.txc_db.specs.History.{History}
-use Rattle.txc_db.specs.Seen.{FrontValue}
-use Rattle.txc_registry.specs.Objects.{Objects}
+use Rattle.txc_db.specs.FrontsAndFeeds.{FrontValue}
+use Rattle.txc_call_registry.specs.Objects.{Objects}
 use Rattle.txc_app.specs.Eval.{Next}
 use Rattle.txc_call.specs.declared.need.Need.{Need}
 use Rattle.txc_call.specs.declared.need.Need.TheVariants as needs
 use Rattle.txc_call.specs.declared.reply.Reply.TheVariants as replies
 use Rattle.txc_call.specs.Needs.{ReplyFits, ReplyHolds}
-use Rattle.txc_ports.specs.declared.reply.PortReply.{PortReply}
-use Rattle.txc_ports.specs.declared.reply.PortReply.TheVariants as ports
-use Rattle.txc_txn.specs.Core.{CoreValue, first_call}
+use Rattle.txc_txn_ports.specs.declared.reply.PortReply.{PortReply}
+use Rattle.txc_txn_ports.specs.declared.reply.PortReply.TheVariants as ports
+use Rattle.txc_txn.specs.TxnCore.{CoreValue, first_call}
 use Rattle.txc_txn.specs.ByHand.{HandTurn, HearTransition}
 use Rattle.txc_txn.proofs.Cores.{pin_seen}
 

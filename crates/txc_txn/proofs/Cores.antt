@@ -7,14 +7,14 @@ use Rattle.txc_tags.specs.Keys.{Call}
 use mathlib.Core.List.{IsPrefix}
 use Rattle.txc_db.specs.History.{History, state_at}
 use Rattle.txc_db.specs.Laws.{StatesStay}
-use Rattle.txc_db.specs.Seen.{FrontValue}
+use Rattle.txc_db.specs.FrontsAndFeeds.{FrontValue}
 use Rattle.txc_cushion.specs.declared.pin.Pin.{Pin}
-use Rattle.txc_cushion.specs.Pinning.{Falls}
+use Rattle.txc_cushion.specs.Pin.{PinsDescend}
 use Rattle.txc_pinset.specs.Members.{PinSetValue, kept, narrowed, with_present}
 use Rattle.txc_pinset.specs.Laws.{KeepsExactlyTheHeld, NeverIsEmpty}
 use Rattle.txc_app.specs.declared.ask.Ask.TheVariants as asks
 use Rattle.txc_app.specs.Eval.{Next}
-use Rattle.txc_registry.specs.Objects.{Objects, AllIdle}
+use Rattle.txc_call_registry.specs.Objects.{Objects, AllIdle}
 use Rattle.txc_call.specs.declared.frame.Frame.{Frame}
 use Rattle.txc_call.specs.declared.need.Need.{Need}
 use Rattle.txc_call.specs.declared.need.Need.TheVariants as needs
@@ -22,24 +22,24 @@ use Rattle.txc_call.specs.declared.need.Outcome.{Outcome}
 use Rattle.txc_call.specs.Reaches.{InReach}
 use Rattle.txc_call.specs.Frames.{released, FramesHold, IsStack}
 use Rattle.txc_call.specs.Needs.{NeedFits, NeedHolds, reach_of}
-use Rattle.txc_call.specs.Calling.{Calling, CallHolds, CallIsUnreached, InCall, IsCalling}
+use Rattle.txc_call.specs.CallMachine.{Calling, CallHolds, CallIsUnreached, InCall, IsCalling}
 use Rattle.txc_cushion.specs.declared.pins.Pins.{Pins}
-use Rattle.txc_ports.specs.declared.reply.PortReply.{PortReply}
-use Rattle.txc_ports.specs.declared.reply.PortReply.TheVariants as ports
-use Rattle.txc_ports.specs.Turns.{PortTurn}
-use Rattle.txc_ports.specs.declared.turn.Turn.TheVariants as turns
-use Rattle.txc_ports.specs.declared.bounds.Bounds.{Bounds}
-use Rattle.txc_ports.specs.declared.recorded.Recorded.{Recorded}
+use Rattle.txc_txn_ports.specs.declared.reply.PortReply.{PortReply}
+use Rattle.txc_txn_ports.specs.declared.reply.PortReply.TheVariants as ports
+use Rattle.txc_txn_ports.specs.Turns.{PortTurn}
+use Rattle.txc_txn_ports.specs.declared.turn.Turn.TheVariants as turns
+use Rattle.txc_txn_ports.specs.declared.bounds.Bounds.{Bounds}
+use Rattle.txc_txn_ports.specs.declared.recorded.Recorded.{Recorded}
 use Rattle.txc_txn.specs.declared.pinning.Pinning.{Pinning}
 use Rattle.txc_txn.specs.declared.pinning.PinStep.TheVariants.{Asked, Adding, Dropping}
 use Rattle.txc_txn.specs.declared.pinning.PinStep.{PinStep}
-use Rattle.txc_ports.specs.Answers.{IsFresh, AreConsistent}
-use Rattle.txc_txn.specs.Meaning.{IsMeant, LieWithin}
-use Rattle.txc_txn.specs.Core.{CoreValue, CoreHolds, IsCore, IsFreshPinning, IsFreshStep, IsRightPortReply, PinningFits, Explains, begun_core, first_call, least_present, receipt_pin}
+use Rattle.txc_txn_ports.specs.Answers.{IsFresh, AreConsistent}
+use Rattle.txc_txn.specs.Meaning.{PinSetInvariant, LieWithin}
+use Rattle.txc_txn.specs.TxnCore.{CoreValue, CoreHolds, IsCore, IsFreshPinning, IsFreshStep, IsRightPortReply, PinningFits, Explains, begun_core, first_call, least_present, receipt_pin}
 use Rattle.txc_txn.specs.Transitions.{NeedTransition, PresentPinTransition, ReplyTransition, StandingTransition, StandsStill}
 use Rattle.std.specs.Option.{ForSome}
 use Rattle.std.specs.Prelude.{IsNone, IsSome}
-use Rattle.txc_ports.specs.Fronts.{front_of_reply}
+use Rattle.txc_txn_ports.specs.Fronts.{front_of_reply}
 use Rattle.txc_txn.proofs.Longer.{fresh_later, right_later}
 use Rattle.txc_txn.proofs.Meanings.{meaning_stays, fewer_members_mean_the_same, in_unreached, kept_all, no_frames_unreached, no_frames_within, present_joins, value_is_recorded, call_begins, call_goes_on}
 
@@ -65,12 +65,12 @@ module _ (never : NeverIsEmpty) (next : Next) (objects : Objects) (c : CoreValue
 
   pub holds_joined : (L : History) → IsFresh L c.bounds pin → CoreHolds next L objects c → CoreHolds next L objects (record c { pins = with_present pin c.pins; taken = c.taken ++ pin.stamp ∷ [] })
   holds_joined L fresh h = record {
-    meant = present_joins never next L c.bounds c.pins c.recorded objects c.call pin h.meant present fresh newer;
+    valid = present_joins never next L c.bounds c.pins c.recorded objects c.call pin h.valid present fresh newer;
     coming = h.coming;
   }
 
 -- a pin that is late enough is newer than every member
-newer_all : (bounds : Bounds) (members : List Pin) (stamp : ℕ) → Falls members → least_present bounds members ≤ stamp → All (λ m. m.stamp < stamp) members
+newer_all : (bounds : Bounds) (members : List Pin) (stamp : ℕ) → PinsDescend members → least_present bounds members ≤ stamp → All (λ m. m.stamp < stamp) members
 newer_all bounds [] stamp falls late = All-nil (λ (m : Pin). m.stamp < stamp)
 newer_all bounds (m ∷ ms) stamp falls late = each
   where
@@ -116,8 +116,8 @@ module _ (keeps : KeepsExactlyTheHeld) (never : NeverIsEmpty) (next : Next) (obj
 
   pub holds_narrowed : (L : History) → CoreHolds next L objects c → CoreHolds next L objects (record c { pins = narrowed reach c.pins })
   holds_narrowed L h = record {
-    meant = fewer_members_mean_the_same next L c.bounds c.pins (narrowed reach c.pins) c.recorded objects c.call h.meant record {
-      set = never.narrows c.pins reach h.meant.set some;
+    valid = fewer_members_mean_the_same next L c.bounds c.pins (narrowed reach c.pins) c.recorded objects c.call h.valid record {
+      set = never.narrows c.pins reach h.valid.set some;
       members = λ i d below. ((keeps c.pins reach _).0 (Contains-get_or (kept reach c.pins.members) i d below)).0;
       present = λ present. cc present;
     };
@@ -137,17 +137,17 @@ value_fits next objects top need frames o is h =
 module _ (next : Next) (objects : Objects) (c : CoreValue) (o : Outcome) (is : c.call.need ≡ Some (needs.Value o)) where
   pub holds_recorded : (L : History) → CoreHolds next L objects c → CoreHolds next L objects (record c { recorded = c.recorded ++ record { key = o.key; value = o.value } ∷ []; call = record c.call { need = None } })
   holds_recorded L h = record {
-    meant = value_is_recorded next L c.bounds c.pins c.recorded objects c.call o h.meant is;
+    valid = value_is_recorded next L c.bounds c.pins c.recorded objects c.call o h.valid is;
     coming = h.coming;
   }
 
   pub holds_dropped : (L : History) → CoreHolds next L objects c → CoreHolds next L objects (record c { call = record c.call { need = None } })
   holds_dropped L h =
-      let right = subst (λ (need : Option Need). NeedHolds next L objects need c.call.frames) is h.meant.right in
+      let right = subst (λ (need : Option Need). NeedHolds next L objects need c.call.frames) is h.valid.right in
       record {
-        meant = call_goes_on next L c.bounds c.pins c.recorded objects objects c.call (record c.call { need = None }) h.meant right.1
-            (All-weaker (λ (p : Pin). InCall p.stamp c.call) (λ (p : Pin). InCall p.stamp (record c.call { need = None })) (λ p inside. (tt, inside.1)) c.pins.members h.meant.within)
-            (λ present. (refl, (h.meant.unreached present).1));
+        valid = call_goes_on next L c.bounds c.pins c.recorded objects objects c.call (record c.call { need = None }) h.valid right.1
+            (All-weaker (λ (p : Pin). InCall p.stamp c.call) (λ (p : Pin). InCall p.stamp (record c.call { need = None })) (λ p inside. (tt, inside.1)) c.pins.members h.valid.within)
+            (λ present. (refl, (h.valid.unreached present).1));
         coming = h.coming;
       }
 
@@ -188,14 +188,14 @@ holds_idle next objects after L c none h holds =
     let right : NeedHolds next L after c.call.need c.call.frames =
     subst (λ (n : Option Need). NeedHolds next L after n c.call.frames) (sym none) (subst (λ (fs : List Frame). FramesHold next L after fs) (sym frames) tt) in
     record {
-      meant = record {
-        set = holds.meant.set;
-        fresh = holds.meant.fresh;
-        consistent = holds.meant.consistent;
+      valid = record {
+        set = holds.valid.set;
+        fresh = holds.valid.fresh;
+        consistent = holds.valid.consistent;
         right = right;
-        within = holds.meant.within;
-        unreached = holds.meant.unreached;
-        everywhere = holds.meant.everywhere;
+        within = holds.valid.within;
+        unreached = holds.valid.unreached;
+        everywhere = holds.valid.everywhere;
       };
       coming = holds.coming;
     }
@@ -235,7 +235,7 @@ module _ (next : Next) (objects : Objects) (c : CoreValue) (reach : Option Inter
 
     pub holds_went_on : (L : History) → CallHolds next L objects' call' → CoreHolds next L objects c → CoreHolds next L objects' (record c { call = call' })
     holds_went_on L right h = record {
-      meant = call_goes_on next L c.bounds c.pins c.recorded objects objects' c.call call' h.meant right (all_within h.meant.within) (λ there. unreached (present there) (h.meant.unreached there));
+      valid = call_goes_on next L c.bounds c.pins c.recorded objects objects' c.call call' h.valid right (all_within h.valid.within) (λ there. unreached (present there) (h.valid.unreached there));
       coming = h.coming;
     }
 
@@ -248,7 +248,7 @@ not_absent o some none = let no : true ≡ false = sym some ∙ none in cc no
 pub holds_begun : (next : Next) (L : History) (objects : Objects) (c : CoreValue) (k : Call) (call' : Calling) → call' ≡ record { top = k; asked = 0; frames = []; need = Some (needs.Lookup k) }
     → CoreHolds next L objects c → CoreHolds next L objects (record c { call = call' })
 holds_begun next L objects c k call' is h = record {
-  meant = subst (λ (call : Calling). IsMeant next L c.bounds c.pins c.recorded objects call) (sym is) (call_begins next L c.bounds c.pins c.recorded objects objects c.call k h.meant);
+  valid = subst (λ (call : Calling). PinSetInvariant next L c.bounds c.pins c.recorded objects call) (sym is) (call_begins next L c.bounds c.pins c.recorded objects objects c.call k h.valid);
   coming = h.coming;
 }
 
@@ -280,7 +280,7 @@ module _ (stay : StatesStay) (next : Next) (L M : History) (begins : IsPrefix L 
   -- in a longer history, of which more was seen
   pub holds_seen : (objects : Objects) (c : CoreValue) (seen : FrontValue) → CoreHolds next L objects c → CoreHolds next M objects (record c { seen = seen })
   holds_seen objects c seen h = record {
-    meant = meaning_stays stay next L M c.bounds c.pins c.recorded objects c.call begins h.meant;
+    valid = meaning_stays stay next L M c.bounds c.pins c.recorded objects c.call begins h.valid;
     coming = pinning_later c.bounds c.pinning h.coming;
   }
 
@@ -288,7 +288,7 @@ module _ (stay : StatesStay) (next : Next) (L M : History) (begins : IsPrefix L 
 
 pub core_explains : (next : Next) (L : History) (objects : Objects) (c : CoreValue) → (c.recorded ≢ [] → c.pins.members ≢ []) → CoreHolds next L objects c
     → Explains next L c.bounds (receipt_pin c.recorded c.pins.members) c.recorded
-core_explains next L objects c some h = go c.recorded c.pins.members some h.meant.fresh h.meant.consistent
+core_explains next L objects c some h = go c.recorded c.pins.members some h.valid.fresh h.valid.consistent
   where
     go : (recorded : List Recorded) (members : List Pin) → (recorded ≢ [] → members ≢ []) → All (IsFresh L c.bounds) members → All (λ p. AreConsistent next recorded (state_at L p.stamp)) members
         → Explains next L c.bounds (receipt_pin recorded members) recorded

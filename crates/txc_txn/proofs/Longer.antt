@@ -13,7 +13,7 @@ use Rattle.txc_db.specs.Laws.{StatesStay}
 use Rattle.txc_cushion.specs.declared.pin.Pin.{Pin}
 use Rattle.txc_app.specs.Eval.{Next, eval, met}
 use Rattle.txc_app.specs.Claims.{covers_all, HoldsOver, ValueHolds}
-use Rattle.txc_registry.specs.Objects.{Objects}
+use Rattle.txc_call_registry.specs.Objects.{Objects}
 use Rattle.txc_call.specs.declared.frame.Frame.{Frame}
 use Rattle.txc_call.specs.declared.need.Need.{Need}
 use Rattle.txc_call.specs.declared.need.Need.TheVariants as needs
@@ -21,12 +21,12 @@ use Rattle.txc_call.specs.Frames.{answers_in, FramesHold}
 use Rattle.txc_call.specs.Needs.{NeedHolds, ReplyHolds}
 use Rattle.txc_call.specs.declared.reply.Reply.{Reply}
 use Rattle.txc_call.specs.declared.reply.Reply.TheVariants as replies
-use Rattle.txc_ports.specs.declared.reply.PortReply.{PortReply}
-use Rattle.txc_ports.specs.declared.reply.PortReply.TheVariants as ports
-use Rattle.txc_txn.specs.Core.{IsRightPortReply}
-use Rattle.txc_app.specs.Answering.{IsRight, AreRight, queries_of, queries_for}
-use Rattle.txc_ports.specs.declared.bounds.Bounds.{Bounds}
-use Rattle.txc_ports.specs.Answers.{IsFresh}
+use Rattle.txc_txn_ports.specs.declared.reply.PortReply.{PortReply}
+use Rattle.txc_txn_ports.specs.declared.reply.PortReply.TheVariants as ports
+use Rattle.txc_txn.specs.TxnCore.{IsRightPortReply}
+use Rattle.txc_app.specs.AnswersSoFar.{IsRight, AreRight, queries_of, queries_for}
+use Rattle.txc_txn_ports.specs.declared.bounds.Bounds.{Bounds}
+use Rattle.txc_txn_ports.specs.Answers.{IsFresh}
 
 -- ---- pins
 

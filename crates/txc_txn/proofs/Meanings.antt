@@ -16,8 +16,8 @@ use Rattle.txc_app.specs.declared.ask.Ask.{Ask}
 use Rattle.txc_app.specs.declared.ask.Ask.TheVariants as asks
 use Rattle.txc_app.specs.declared.ask.Answer.{Answer}
 use Rattle.txc_app.specs.declared.ask.Answer.TheVariants as answers
-use Rattle.txc_app.specs.Answering.{AreRight, IsRight, queries_after, queries_for, queries_of}
-use Rattle.txc_registry.specs.Objects.{Objects}
+use Rattle.txc_app.specs.AnswersSoFar.{AreRight, IsRight, queries_after, queries_for, queries_of}
+use Rattle.txc_call_registry.specs.Objects.{Objects}
 use Rattle.txc_call.specs.declared.frame.Frame.{Frame}
 use Rattle.txc_call.specs.declared.need.Need.{Need}
 use Rattle.txc_call.specs.declared.need.Need.TheVariants as needs
@@ -25,11 +25,11 @@ use Rattle.txc_call.specs.declared.need.Outcome.{Outcome}
 use Rattle.txc_call.specs.Reaches.{InReach}
 use Rattle.txc_call.specs.Frames.{answers_in, FramesHold, InAll, AreUnreached}
 use Rattle.txc_call.specs.Needs.{NeedHolds, reach_of}
-use Rattle.txc_call.specs.Calling.{Calling, InCall, CallHolds, CallIsUnreached}
-use Rattle.txc_ports.specs.declared.bounds.Bounds.{Bounds}
-use Rattle.txc_ports.specs.declared.recorded.Recorded.{Recorded}
-use Rattle.txc_ports.specs.Answers.{IsFresh, AreConsistent}
-use Rattle.txc_txn.specs.Meaning.{IsMeant, LieWithin}
+use Rattle.txc_call.specs.CallMachine.{Calling, InCall, CallHolds, CallIsUnreached}
+use Rattle.txc_txn_ports.specs.declared.bounds.Bounds.{Bounds}
+use Rattle.txc_txn_ports.specs.declared.recorded.Recorded.{Recorded}
+use Rattle.txc_txn_ports.specs.Answers.{IsFresh, AreConsistent}
+use Rattle.txc_txn.specs.Meaning.{PinSetInvariant, LieWithin}
 use Rattle.txc_txn.specs.Laws.{MeaningStays, MeaningBegins, FindingNarrows, QueryLeavesAMember, PresentJoins, PresentIsFresh, FewerMembersMeanTheSame, CallBegins, CallIsGivenUp, ValueIsRecorded, FramesAreRight, OpenAnswersAreRight, NewestExplains, UnreachedAnswersAreValues, IsValueAnswer}
 use Rattle.txc_txn.proofs.Longer.{pin_within, same_state, fresh_later, need_later}
 
@@ -102,8 +102,8 @@ call_is_given_up next L bounds pins recorded objects objects' call call' h empty
 -- ---- a call goes on
 
 pub call_goes_on : (next : Next) (L : History) (bounds : Bounds) (pins : PinSetValue) (recorded : List Recorded) (objects objects' : Objects) (call call' : Calling)
-    → IsMeant next L bounds pins recorded objects call → CallHolds next L objects' call' → LieWithin pins call' → (pins.has_present ≡ true → CallIsUnreached call')
-    → IsMeant next L bounds pins recorded objects' call'
+    → PinSetInvariant next L bounds pins recorded objects call → CallHolds next L objects' call' → LieWithin pins call' → (pins.has_present ≡ true → CallIsUnreached call')
+    → PinSetInvariant next L bounds pins recorded objects' call'
 call_goes_on next L bounds pins recorded objects objects' call call' h right within unreached = record {
   set = h.set;
   fresh = h.fresh;

@@ -8,9 +8,9 @@ use Rattle.txc_stream.specs.Names.{Name}
 use Rattle.txc_stamp.specs.Interval.{Interval, Holds}
 use Rattle.txc_tags.specs.Keys.{Call, node_of}
 use Rattle.txc_db.specs.History.{moment_at}
-use Rattle.txc_db.specs.Seen.{FrontValue}
+use Rattle.txc_db.specs.FrontsAndFeeds.{FrontValue}
 use Rattle.txc_cushion.specs.declared.pin.Pin.{Pin}
-use Rattle.txc_cushion.specs.Pinning.{is_older}
+use Rattle.txc_cushion.specs.Pin.{is_older}
 use Rattle.txc_pinset.specs.declared.choice.Choice.TheVariants.{Present, At}
 use Rattle.txc_pinset.specs.Members.{choice_among}
 use Rattle.txc_app.specs.Eval.{Next}
@@ -18,20 +18,20 @@ use Rattle.txc_call.specs.declared.need.Need.{Need}
 use Rattle.txc_call.specs.declared.need.Need.TheVariants as needs
 use Rattle.txc_call.specs.declared.reply.Reply.TheVariants as calls
 use Rattle.txc_call.specs.Needs.{NeedHolds, ReplyHolds}
-use Rattle.txc_ports.specs.declared.request.PortRequest.{PortRequest}
-use Rattle.txc_ports.specs.declared.request.PortRequest.TheVariants as requests
-use Rattle.txc_ports.specs.declared.reply.PortReply.{PortReply}
-use Rattle.txc_ports.specs.declared.reply.PortReply.TheVariants as replies
-use Rattle.txc_ports.specs.Turns.{PortTurn}
-use Rattle.txc_ports.specs.declared.turn.Turn.TheVariants as turns
-use Rattle.txc_ports.specs.Fronts.{front_of_reply}
-use Rattle.txc_txn.specs.Core.{CoreValue, AddsOnly, HoldsNewest, IsAnswered, CoreAsks, IsNoAdding}
+use Rattle.txc_txn_ports.specs.declared.request.PortRequest.{PortRequest}
+use Rattle.txc_txn_ports.specs.declared.request.PortRequest.TheVariants as requests
+use Rattle.txc_txn_ports.specs.declared.reply.PortReply.{PortReply}
+use Rattle.txc_txn_ports.specs.declared.reply.PortReply.TheVariants as replies
+use Rattle.txc_txn_ports.specs.Turns.{PortTurn}
+use Rattle.txc_txn_ports.specs.declared.turn.Turn.TheVariants as turns
+use Rattle.txc_txn_ports.specs.Fronts.{front_of_reply}
+use Rattle.txc_txn.specs.TxnCore.{CoreValue, AddsOnly, HoldsNewest, IsAnswered, CoreAsks, IsNoAdding}
 use Rattle.txc_txn.specs.Transitions.{ReplyTransition}
-use Rattle.txc_txn.specs.Kept.{TxnValue, IsTxn, IsShownRight}
-use Rattle.txc_ports.specs.Asking.{AddsSuch, TurnAddsSuch, IsAnsweredRight, IsReplyTo, MayAsk}
-use Rattle.txc_ports.specs.Exchanges.{Exchange, reply_of, request_of}
-use Rattle.txc_ports.specs.Exchanges as exchanges
-use Rattle.txc_ports.proofs.Offered.{by_exchange}
+use Rattle.txc_txn.specs.RunningTxn.{TxnValue, IsTxn, IsShownRight}
+use Rattle.txc_txn_ports.specs.PortRequests.{AddsSuch, TurnAddsSuch, IsAnsweredRight, IsReplyTo, MayAsk}
+use Rattle.txc_txn_ports.specs.Exchanges.{Exchange, reply_of, request_of}
+use Rattle.txc_txn_ports.specs.Exchanges as exchanges
+use Rattle.txc_txn_ports.proofs.Offered.{by_exchange}
 
 -- ---- a pin that is to be added
 
@@ -53,13 +53,13 @@ module _ (P : FrontValue → Type 0) where
   module _ (next : Next) (old new : TxnValue) (turn : PortTurn) where
     pub adds_next : (reply : PortReply) → ForSome (front_of_reply reply) P → AddsOnly reply turn
         → ReplyTransition next old.core old.objects reply new.core new.objects turn → TurnAddsSuch P turn
-    adds_next (replies.Pin (Ok pinned)) of only leads = subst (TurnAddsSuch P) (sym leads) (of pinned.front refl)
-    adds_next (replies.Pin (Err error)) of only leads = adds_none turn only
-    adds_next (replies.AddPin pinned added) of only leads = adds_none turn only
-    adds_next (replies.Unpin unpinned) of only leads = adds_none turn only
-    adds_next (replies.Lookup hit) of only leads = adds_none turn only
-    adds_next (replies.Query found) of only leads = adds_none turn only
-    adds_next (replies.Insert kept) of only leads = adds_none turn only
+    adds_next (replies.Pin (Ok pinned)) of only transition = subst (TurnAddsSuch P) (sym transition) (of pinned.front refl)
+    adds_next (replies.Pin (Err error)) of only transition = adds_none turn only
+    adds_next (replies.AddPin pinned added) of only transition = adds_none turn only
+    adds_next (replies.Unpin unpinned) of only transition = adds_none turn only
+    adds_next (replies.Lookup hit) of only transition = adds_none turn only
+    adds_next (replies.Query found) of only transition = adds_none turn only
+    adds_next (replies.Insert kept) of only transition = adds_none turn only
 
 -- ---- what is asked may be asked
 
@@ -77,7 +77,7 @@ module _ (next : Next) (row : Name) (t : TxnValue) (kept : IsTxn next t) where
   may_ask nodes same (requests.Query query stamp) asking adds = tt
   may_ask nodes same (requests.Insert node entry) asking adds = (
     node_there entry.key node nodes asking.1 same,
-    (subst (λ (n : Option Need). NeedHolds next t.core.seen.history t.objects n t.core.call.frames) asking.0.1 kept.holds.meant.right).0,
+    (subst (λ (n : Option Need). NeedHolds next t.core.seen.history t.objects n t.core.call.frames) asking.0.1 kept.holds.valid.right).0,
   )
 
 -- ---- the reply is one to it

@@ -1,10 +1,10 @@
 -- What a caller has noted, and its floor.
 use Rattle.std.proofs.Common.{◌≡◌, ◌⊎◌, inl, inr, ℕ, zero, suc, ◌≤◌, max, List, [], ◌∷◌, ◌++◌, Option, Some, None, refl, sym, ap, subst, ◌∙◌, arith}
 use Rattle.std.specs.Prelude.{option_map}
-use Rattle.txc_db.specs.Seen.{FrontValue}
+use Rattle.txc_db.specs.FrontsAndFeeds.{FrontValue}
 use Rattle.txc_cushion.specs.declared.pin.Pin.{Pin}
 use Rattle.txc_txn.specs.declared.receipt.Receipt.{Receipt}
-use Rattle.txc_txn.specs.Sessions.{floor_after, noted_commit, noted_receipt, stamp_of, Deed, HasNoted, IsFloorOf}
+use Rattle.txc_txn.specs.Sessions.{floor_after, noted_commit, noted_receipt, stamp_of, SessionEvent, HasNoted, IsFloorOf}
 
 max_is : (a b : ℕ) → (max a b ≡ a) ⊎ (max a b ≡ b)
 max_is zero b = inr (omega arith)
@@ -17,7 +17,7 @@ max_is (suc a) (suc b) = go (max_is a b)
 
 -- ---- one more deed
 
-noted_more : (deeds : List Deed) (deed : Deed) (stamp : ℕ) → HasNoted (deeds ++ deed ∷ []) stamp → HasNoted deeds stamp ⊎ (stamp_of deed ≡ Some stamp)
+noted_more : (deeds : List SessionEvent) (deed : SessionEvent) (stamp : ℕ) → HasNoted (deeds ++ deed ∷ []) stamp → HasNoted deeds stamp ⊎ (stamp_of deed ≡ Some stamp)
 noted_more [] deed stamp (inl last) = inr last
 noted_more [] deed stamp (inr none) = absurd none
 noted_more (d ∷ ds) deed stamp (inl first) = inl (inl first)
@@ -27,18 +27,18 @@ noted_more (d ∷ ds) deed stamp (inr h) = go (noted_more ds deed stamp h)
     go (inl among) = inl (inr among)
     go (inr last) = inr last
 
-still_noted : (deeds : List Deed) (deed : Deed) (stamp : ℕ) → HasNoted deeds stamp → HasNoted (deeds ++ deed ∷ []) stamp
+still_noted : (deeds : List SessionEvent) (deed : SessionEvent) (stamp : ℕ) → HasNoted deeds stamp → HasNoted (deeds ++ deed ∷ []) stamp
 still_noted [] deed stamp h = absurd h
 still_noted (d ∷ ds) deed stamp (inl first) = inl first
 still_noted (d ∷ ds) deed stamp (inr h) = inr (still_noted ds deed stamp h)
 
-last_noted : (deeds : List Deed) (deed : Deed) (stamp : ℕ) → stamp_of deed ≡ Some stamp → HasNoted (deeds ++ deed ∷ []) stamp
+last_noted : (deeds : List SessionEvent) (deed : SessionEvent) (stamp : ℕ) → stamp_of deed ≡ Some stamp → HasNoted (deeds ++ deed ∷ []) stamp
 last_noted [] deed stamp is = inl is
 last_noted (d ∷ ds) deed stamp is = inr (last_noted ds deed stamp is)
 
 -- ---- the floor
 
-module _ (deeds : List Deed) (deed : Deed) (floor : ℕ) (h : IsFloorOf deeds floor) where
+module _ (deeds : List SessionEvent) (deed : SessionEvent) (floor : ℕ) (h : IsFloorOf deeds floor) where
   still_floor : (floor ≡ 0) ⊎ HasNoted deeds floor → (floor ≡ 0) ⊎ HasNoted (deeds ++ deed ∷ []) floor
   still_floor (inl none) = inl none
   still_floor (inr was) = inr (still_noted deeds deed floor was)
@@ -78,12 +78,12 @@ module _ (deeds : List Deed) (deed : Deed) (floor : ℕ) (h : IsFloorOf deeds fl
 pub nothing_noted : (floor : ℕ) → floor ≡ 0 → IsFloorOf [] floor
 nothing_noted floor is = record { greatest = λ stamp none. absurd none; noted = inl is }
 
-pub commit_noted : (deeds : List Deed) (stamp : ℕ) (seen : FrontValue) (old new : ℕ) → new ≡ max old stamp → IsFloorOf deeds old
+pub commit_noted : (deeds : List SessionEvent) (stamp : ℕ) (seen : FrontValue) (old new : ℕ) → new ≡ max old stamp → IsFloorOf deeds old
     → IsFloorOf (deeds ++ noted_commit stamp seen ∷ []) new
 commit_noted deeds stamp seen old new is h =
     subst (IsFloorOf (deeds ++ noted_commit stamp seen ∷ [])) (sym is) (floor_rises deeds (noted_commit stamp seen) old h stamp refl)
 
-pub receipt_noted : (deeds : List Deed) (receipt : Receipt) (old new : ℕ) → new ≡ floor_after old receipt.pin → IsFloorOf deeds old
+pub receipt_noted : (deeds : List SessionEvent) (receipt : Receipt) (old new : ℕ) → new ≡ floor_after old receipt.pin → IsFloorOf deeds old
     → IsFloorOf (deeds ++ noted_receipt receipt ∷ []) new
 receipt_noted deeds receipt old new is h = subst (IsFloorOf (deeds ++ noted_receipt receipt ∷ [])) (sym is) (go receipt.pin refl)
   where

@@ -6,33 +6,33 @@ use mathlib.Core.List.{IsPrefix}
 use Rattle.txc_tags.specs.Keys.{Call}
 use Rattle.txc_rows.specs.declared.query.Query.{Query}
 use Rattle.txc_node.specs.declared.entry.Entry.{Entry}
-use Rattle.txc_node.specs.declared.hit.Shown.{Shown}
+use Rattle.txc_node.specs.declared.hit.HitValue.{HitValue}
 use Rattle.txc_db.specs.History.{History}
 use Rattle.txc_pinset.specs.Members.{kept}
 use Rattle.txc_app.specs.declared.app.Limits.{Limits}
 use Rattle.txc_app.specs.declared.ask.Ask.{Ask as FunctionAsk}
 use Rattle.txc_app.specs.declared.ask.Ask.TheVariants as asks
 use Rattle.txc_app.specs.Eval.{Next}
-use Rattle.txc_registry.specs.Objects.{Objects, AllIdle}
+use Rattle.txc_call_registry.specs.Objects.{Objects, AllIdle}
 use Rattle.txc_call.specs.declared.need.Need.{Need}
 use Rattle.txc_call.specs.declared.need.Need.TheVariants as needs
 use Rattle.txc_call.specs.declared.reply.Reply.{Reply}
 use Rattle.txc_call.specs.declared.reply.Reply.TheVariants as replies
-use Rattle.txc_call.specs.Calling.{Calling}
-use Rattle.txc_call.specs.Running.{need_after, AfterRan, FunctionExists, NeedsFunction}
-use Rattle.txc_call.specs.Turns.{Turn as CallTurn, needing}
-use Rattle.txc_ports.specs.declared.error.TxnError.{TxnError}
-use Rattle.txc_ports.specs.declared.request.PortRequest.TheVariants as requests
-use Rattle.txc_ports.specs.declared.reply.PortReply.{PortReply}
-use Rattle.txc_ports.specs.declared.reply.PortReply.TheVariants as ports
-use Rattle.txc_ports.specs.declared.turn.Turn.TheVariants.{Ask, Ended}
-use Rattle.txc_ports.specs.Fronts.{front_of_reply}
-use Rattle.txc_ports.specs.Refusals.{refused_call, refused_pin, refused_request}
-use Rattle.txc_ports.specs.Turns.{PortTurn, IsAsk}
-use Rattle.txc_ports.specs.declared.recorded.Recorded.{Recorded}
+use Rattle.txc_call.specs.CallMachine.{Calling}
+use Rattle.txc_call.specs.CallSteps.{need_after, AfterRan, FunctionExists, NeedsFunction}
+use Rattle.txc_call.specs.MachineTurn.{Turn as CallTurn, needing}
+use Rattle.txc_txn_ports.specs.declared.error.TxnError.{TxnError}
+use Rattle.txc_txn_ports.specs.declared.request.PortRequest.TheVariants as requests
+use Rattle.txc_txn_ports.specs.declared.reply.PortReply.{PortReply}
+use Rattle.txc_txn_ports.specs.declared.reply.PortReply.TheVariants as ports
+use Rattle.txc_txn_ports.specs.declared.turn.Turn.TheVariants.{Ask, Ended}
+use Rattle.txc_txn_ports.specs.Fronts.{front_of_reply}
+use Rattle.txc_txn_ports.specs.Refusals.{refused_call, refused_pin, refused_request}
+use Rattle.txc_txn_ports.specs.Turns.{PortTurn, IsAsk}
+use Rattle.txc_txn_ports.specs.declared.recorded.Recorded.{Recorded}
 use Rattle.txc_txn.specs.declared.pinning.PinStep.TheVariants.{Dropping}
-use Rattle.txc_txn.specs.Core.{CoreValue, CoreHolds, IsCore, IsPinningAt, IsRightPortReply, IsTurn, KeepsSettings, PinsAfter}
-use Rattle.txc_txn.specs.Core.{first_call, left_after, left_pin, open_call, recorded_after, taken_after, AddsOnly, IsNoAdding, IsOneOf}
+use Rattle.txc_txn.specs.TxnCore.{CoreValue, CoreHolds, IsCore, IsPinningAt, IsRightPortReply, IsTurn, KeepsSettings, PinsAfter}
+use Rattle.txc_txn.specs.TxnCore.{first_call, left_after, left_pin, open_call, recorded_after, taken_after, AddsOnly, IsNoAdding, IsOneOf}
 use Rattle.txc_txn.specs.Transitions.{PresentPinTransition, StandingTransition}
 
 -- the result of a step by hand: a turn, or none if a function must begin or continue first
@@ -102,7 +102,7 @@ HandAskTransition limits old need ask new turn = (objects : Objects)
     × HandTransition stands new turn
 
 -- a hit counts if a member is in its reach; anything else is a miss
-pub record HitByHand (old : CoreValue) (k : Call) (hit : Shown) (new : CoreValue) (turn : HandTurn) : Type 0 where
+pub record HitByHand (old : CoreValue) (k : Call) (hit : HitValue) (new : CoreValue) (turn : HandTurn) : Type 0 where
   pub held : kept hit.reach old.pins.members ≢ []
       → TakeTransition old (needs.Lookup k) (replies.Hit hit) new turn
   pub none : kept hit.reach old.pins.members ≡ [] → TakeTransition old (needs.Lookup k) replies.Miss new turn
@@ -153,7 +153,7 @@ pub record HasHeard (old : CoreValue) (reply : PortReply) (new : CoreValue) (tur
       → IsRightPortReply next L old.call.need reply → IsCore next objects old → CoreHolds next L objects old
       → CoreHolds next L after new
   pub turn_fits : IsHandTurn new turn
-  pub leads : HearTransition old reply new turn
+  pub transition : HearTransition old reply new turn
   pub rests : RestsAfter reply turn
   pub adds : IfSome turn (AddsOnly reply)
   pub pins : PinsAfter old reply new.pins
@@ -173,7 +173,7 @@ pub record HasHeard (old : CoreValue) (reply : PortReply) (new : CoreValue) (tur
 -- what the reply shows of it.
 pub record HasGoneOnByHand (old : CoreValue) (reply : PortReply) (new : CoreValue) (turn : HandTurn) : Type 0 where
   pub turn_fits : IsHandTurn new turn
-  pub leads : HearTransition old reply new turn
+  pub transition : HearTransition old reply new turn
   pub rests : RestsAfter reply turn
   pub adds : IfSome turn (AddsOnly reply)
   pub pins : PinsAfter old reply new.pins
@@ -193,7 +193,7 @@ pub record HasGoneOnByHand (old : CoreValue) (reply : PortReply) (new : CoreValu
 pub record HasAskedByHand (limits : Limits) (old : CoreValue) (ask : FunctionAsk) (new : CoreValue) (turn : HandTurn)
     : Type 0 where
   pub turn_fits : IsHandTurn new turn
-  pub leads : (need : Need) → old.call.need ≡ Some need → HandAskTransition limits old need ask new turn
+  pub transition : (need : Need) → old.call.need ≡ Some need → HandAskTransition limits old need ask new turn
   pub adds : IfSome turn IsNoAdding
   pub left : left_pin new.pinning ≡ None
   pub recorded : new.recorded ≡ recorded_by_hand old.recorded turn (Some old.call.top)

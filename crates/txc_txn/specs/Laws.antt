@@ -8,31 +8,31 @@ use Rattle.txc_tags.specs.declared.tag.Tag.{Tag}
 use Rattle.txc_rows.specs.States.{State}
 use Rattle.txc_db.specs.History.{History, state_at, moment_at}
 use Rattle.txc_cushion.specs.declared.pin.Pin.{Pin}
-use Rattle.txc_cushion.specs.Pinning.{Falls}
+use Rattle.txc_cushion.specs.Pin.{PinsDescend}
 use Rattle.txc_pinset.specs.Members.{PinSetValue, IsPinSet, begun_pin_set, kept, narrowed, with_present}
 use Rattle.txc_app.specs.Eval.{Next}
 use Rattle.txc_app.specs.declared.ask.Answer.{Answer}
 use Rattle.txc_app.specs.declared.ask.Answer.TheVariants as answers
-use Rattle.txc_app.specs.Answering.{AreRight}
-use Rattle.txc_registry.specs.Objects.{Objects}
+use Rattle.txc_app.specs.AnswersSoFar.{AreRight}
+use Rattle.txc_call_registry.specs.Objects.{Objects}
 use Rattle.txc_call.specs.declared.frame.Frame.{Frame}
 use Rattle.txc_call.specs.declared.need.Need.TheVariants as needs
 use Rattle.txc_call.specs.declared.need.Outcome.{Outcome}
 use Rattle.txc_call.specs.Reaches.{InReach}
 use Rattle.txc_call.specs.Frames.{answers_in, AnswersHold}
-use Rattle.txc_call.specs.Calling.{Calling, started, CallHolds, InCall, CallIsUnreached}
-use Rattle.txc_ports.specs.declared.bounds.Bounds.{Bounds}
-use Rattle.txc_ports.specs.declared.recorded.Recorded.{Recorded}
-use Rattle.txc_ports.specs.Answers.{IsFresh, AreConsistent}
-use Rattle.txc_txn.specs.Meaning.{IsMeant, HasOnlyLost}
+use Rattle.txc_call.specs.CallMachine.{Calling, started, CallHolds, InCall, CallIsUnreached}
+use Rattle.txc_txn_ports.specs.declared.bounds.Bounds.{Bounds}
+use Rattle.txc_txn_ports.specs.declared.recorded.Recorded.{Recorded}
+use Rattle.txc_txn_ports.specs.Answers.{IsFresh, AreConsistent}
+use Rattle.txc_txn.specs.Meaning.{PinSetInvariant, HasOnlyLost}
 
 -- a pin set that is correct in a history is correct in each longer one
 abbrev pub MeaningStays : Type 0
 MeaningStays =
     (next : Next) (L M : History) (bounds : Bounds) (pins : PinSetValue) (recorded : List Recorded)
     (objects : Objects) (call : Calling)
-    → IsPrefix L M → IsMeant next L bounds pins recorded objects call
-    → IsMeant next M bounds pins recorded objects call
+    → IsPrefix L M → PinSetInvariant next L bounds pins recorded objects call
+    → PinSetInvariant next M bounds pins recorded objects call
 
 -- ---- a transaction begins
 
@@ -40,8 +40,8 @@ MeaningStays =
 abbrev pub MeaningBegins : Type 0
 MeaningBegins =
     (next : Next) (L : History) (bounds : Bounds) (pins : List Pin) (objects : Objects) (call : Calling)
-    → Falls pins → All (IsFresh L bounds) pins → call.frames ≡ [] → call.need ≡ None
-    → IsMeant next L bounds (begun_pin_set pins) [] objects call
+    → PinsDescend pins → All (IsFresh L bounds) pins → call.frames ≡ [] → call.need ≡ None
+    → PinSetInvariant next L bounds (begun_pin_set pins) [] objects call
 
 -- ---- a call continues
 
@@ -63,9 +63,9 @@ abbrev pub FindingNarrows : Type 0
 FindingNarrows =
     (next : Next) (L : History) (bounds : Bounds) (pins : PinSetValue) (recorded : List Recorded)
     (objects objects' : Objects) (call call' : Calling) (reach : Option Interval)
-    → IsMeant next L bounds pins recorded objects call → GoesOnOver next L reach call objects' call'
+    → PinSetInvariant next L bounds pins recorded objects call → GoesOnOver next L reach call objects' call'
     → IsPinSet (pins_over reach pins)
-    → IsMeant next L bounds (pins_over reach pins) recorded objects' call'
+    → PinSetInvariant next L bounds (pins_over reach pins) recorded objects' call'
 
 -- a reach that holds the newest member, as that of a query asked there does, leaves a member
 abbrev pub QueryLeavesAMember : Type 0
@@ -79,9 +79,9 @@ abbrev pub PresentJoins : Type 0
 PresentJoins =
     (next : Next) (L : History) (bounds : Bounds) (pins : PinSetValue) (recorded : List Recorded)
     (objects : Objects) (call : Calling) (pin : Pin)
-    → IsMeant next L bounds pins recorded objects call → pins.has_present ≡ true → IsFresh L bounds pin
+    → PinSetInvariant next L bounds pins recorded objects call → pins.has_present ≡ true → IsFresh L bounds pin
     → All (λ m. m.stamp < pin.stamp) pins.members
-    → IsMeant next L bounds (with_present pin pins) recorded objects call
+    → PinSetInvariant next L bounds (with_present pin pins) recorded objects call
 
 -- a pin of the moment that the bounds begin at, late enough, is allowed
 abbrev pub PresentIsFresh : Type 0
@@ -94,8 +94,8 @@ abbrev pub FewerMembersMeanTheSame : Type 0
 FewerMembersMeanTheSame =
     (next : Next) (L : History) (bounds : Bounds) (old new : PinSetValue) (recorded : List Recorded)
     (objects : Objects) (call : Calling)
-    → IsMeant next L bounds old recorded objects call → HasOnlyLost old new
-    → IsMeant next L bounds new recorded objects call
+    → PinSetInvariant next L bounds old recorded objects call → HasOnlyLost old new
+    → PinSetInvariant next L bounds new recorded objects call
 
 -- ---- calls begin and end
 
@@ -104,24 +104,24 @@ abbrev pub CallBegins : Type 0
 CallBegins =
     (next : Next) (L : History) (bounds : Bounds) (pins : PinSetValue) (recorded : List Recorded)
     (objects objects' : Objects) (call : Calling) (k : Call)
-    → IsMeant next L bounds pins recorded objects call
-    → IsMeant next L bounds pins recorded objects' (started k)
+    → PinSetInvariant next L bounds pins recorded objects call
+    → PinSetInvariant next L bounds pins recorded objects' (started k)
 
 -- a call is cancelled: its frames are removed
 abbrev pub CallIsGivenUp : Type 0
 CallIsGivenUp =
     (next : Next) (L : History) (bounds : Bounds) (pins : PinSetValue) (recorded : List Recorded)
     (objects objects' : Objects) (call call' : Calling)
-    → IsMeant next L bounds pins recorded objects call → call'.frames ≡ [] → call'.need ≡ None
-    → IsMeant next L bounds pins recorded objects' call'
+    → PinSetInvariant next L bounds pins recorded objects call → call'.frames ≡ [] → call'.need ≡ None
+    → PinSetInvariant next L bounds pins recorded objects' call'
 
 -- the value of a call is recorded
 abbrev pub ValueIsRecorded : Type 0
 ValueIsRecorded =
     (next : Next) (L : History) (bounds : Bounds) (pins : PinSetValue) (recorded : List Recorded)
     (objects : Objects) (call : Calling) (o : Outcome)
-    → IsMeant next L bounds pins recorded objects call → call.need ≡ Some (needs.Value o)
-    → IsMeant next L bounds pins (recorded ++ record { key = o.key; value = o.value } ∷ []) objects
+    → PinSetInvariant next L bounds pins recorded objects call → call.need ≡ Some (needs.Value o)
+    → PinSetInvariant next L bounds pins (recorded ++ record { key = o.key; value = o.value } ∷ []) objects
     (record call { need = None })
 
 -- ---- its results
@@ -137,7 +137,7 @@ abbrev pub OpenAnswersAreRight : Type 0
 OpenAnswersAreRight =
     (next : Next) (L : History) (bounds : Bounds) (pins : PinSetValue) (recorded : List Recorded)
     (objects : Objects) (call : Calling)
-    → IsMeant next L bounds pins recorded objects call
+    → PinSetInvariant next L bounds pins recorded objects call
     → All (λ p. FramesAreRight next objects (state_at L p.stamp) call.frames) pins.members
 
 -- the answer is the value of a call
@@ -155,5 +155,5 @@ abbrev pub NewestExplains : Type 0
 NewestExplains =
     (next : Next) (L : History) (bounds : Bounds) (pins : PinSetValue) (recorded : List Recorded)
     (objects : Objects) (call : Calling) (newest : Pin) (older : List Pin)
-    → IsMeant next L bounds pins recorded objects call → pins.members ≡ newest ∷ older
+    → PinSetInvariant next L bounds pins recorded objects call → pins.members ≡ newest ∷ older
     → IsFresh L bounds newest × AreConsistent next recorded (state_at L newest.stamp)

@@ -1,7 +1,7 @@
-pub mod Meaning
-pub mod Laws
-pub mod Core
-pub mod Transitions
-pub mod Kept
-pub mod Sessions
 pub mod ByHand
+pub mod Laws
+pub mod Meaning
+pub mod RunningTxn
+pub mod Sessions
+pub mod Transitions
+pub mod TxnCore

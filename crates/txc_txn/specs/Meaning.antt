@@ -4,11 +4,11 @@ use Rattle.txc_rows.specs.States.{State}
 use Rattle.txc_db.specs.History.{History, state_at}
 use Rattle.txc_pinset.specs.Members.{PinSetValue, IsPinSet}
 use Rattle.txc_app.specs.Eval.{Next}
-use Rattle.txc_registry.specs.Objects.{Objects}
-use Rattle.txc_call.specs.Calling.{Calling, CallHolds, InCall, CallIsUnreached}
-use Rattle.txc_ports.specs.declared.bounds.Bounds.{Bounds}
-use Rattle.txc_ports.specs.declared.recorded.Recorded.{Recorded}
-use Rattle.txc_ports.specs.Answers.{IsFresh, AreConsistent}
+use Rattle.txc_call_registry.specs.Objects.{Objects}
+use Rattle.txc_call.specs.CallMachine.{Calling, CallHolds, InCall, CallIsUnreached}
+use Rattle.txc_txn_ports.specs.declared.bounds.Bounds.{Bounds}
+use Rattle.txc_txn_ports.specs.declared.recorded.Recorded.{Recorded}
+use Rattle.txc_txn_ports.specs.Answers.{IsFresh, AreConsistent}
 
 -- every member is in each reach of the call: of its open frames, and of a value that waits for its insertion
 abbrev pub LieWithin : PinSetValue → Calling → Type 0
@@ -21,7 +21,7 @@ LieWithin pins call = All (λ p. InCall p.stamp call) pins.members
 -- state, and depend on no query. So is a value that waits for its insertion. Every member is in all these
 -- reaches. While the set has the present, there is no such reach, and the recorded results are correct in every
 -- state.
-pub record IsMeant (next : Next) (L : History) (bounds : Bounds) (pins : PinSetValue)
+pub record PinSetInvariant (next : Next) (L : History) (bounds : Bounds) (pins : PinSetValue)
     (recorded : List Recorded) (objects : Objects)
     (call : Calling) : Type 0 where
   pub set : IsPinSet pins

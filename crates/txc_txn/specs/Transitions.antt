@@ -4,30 +4,30 @@ use Rattle.txc_stamp.specs.declared.stamp.TheConstants.{MOST_STAMP}
 use Rattle.txc_tags.specs.Keys.{Call}
 use Rattle.txc_rows.specs.declared.query.Query.{Query}
 use Rattle.txc_node.specs.declared.entry.Entry.{Entry}
-use Rattle.txc_node.specs.declared.hit.Shown.{Shown}
+use Rattle.txc_node.specs.declared.hit.HitValue.{HitValue}
 use Rattle.txc_db.specs.declared.error.DbError.TheVariants.{Full}
 use Rattle.txc_pinset.specs.declared.choice.Choice.TheVariants.{Present}
 use Rattle.txc_pinset.specs.Members.{choice_of, kept}
 use Rattle.txc_app.specs.Eval.{Next}
-use Rattle.txc_registry.specs.Objects.{Objects, activity_of}
+use Rattle.txc_call_registry.specs.Objects.{Objects, activity_of}
 use Rattle.txc_call.specs.declared.error.CallError.TheVariants.{NoFunction}
 use Rattle.txc_call.specs.declared.need.Need.{Need}
 use Rattle.txc_call.specs.declared.need.Need.TheVariants as needs
 use Rattle.txc_call.specs.declared.need.Outcome.{Outcome}
 use Rattle.txc_call.specs.declared.reply.Reply.{Reply}
 use Rattle.txc_call.specs.declared.reply.Reply.TheVariants as replies
-use Rattle.txc_call.specs.Calling.{started}
-use Rattle.txc_call.specs.Turns.{Turn as CallTurn, AfterReply}
-use Rattle.txc_ports.specs.declared.error.TxnError.{TxnError}
-use Rattle.txc_ports.specs.declared.error.TxnError.TheVariants as errors
-use Rattle.txc_ports.specs.declared.request.PortRequest.TheVariants as requests
-use Rattle.txc_ports.specs.declared.reply.PortReply.{PortReply}
-use Rattle.txc_ports.specs.declared.reply.PortReply.TheVariants as ports
-use Rattle.txc_ports.specs.declared.turn.Turn.TheVariants.{Ask, Ended}
-use Rattle.txc_ports.specs.Refusals.{refused_call, refused_request, refused_pin}
+use Rattle.txc_call.specs.CallMachine.{started}
+use Rattle.txc_call.specs.MachineTurn.{Turn as CallTurn, AfterReply}
+use Rattle.txc_txn_ports.specs.declared.error.TxnError.{TxnError}
+use Rattle.txc_txn_ports.specs.declared.error.TxnError.TheVariants as errors
+use Rattle.txc_txn_ports.specs.declared.request.PortRequest.TheVariants as requests
+use Rattle.txc_txn_ports.specs.declared.reply.PortReply.{PortReply}
+use Rattle.txc_txn_ports.specs.declared.reply.PortReply.TheVariants as ports
+use Rattle.txc_txn_ports.specs.declared.turn.Turn.TheVariants.{Ask, Ended}
+use Rattle.txc_txn_ports.specs.Refusals.{refused_call, refused_request, refused_pin}
 use Rattle.txc_txn.specs.declared.pinning.PinStep.TheVariants.{Asked, Dropping}
-use Rattle.txc_txn.specs.Core.{CoreValue, IsPinningAt, first_call, least_present}
-use Rattle.txc_ports.specs.Turns.{PortTurn, IsAsk}
+use Rattle.txc_txn.specs.TxnCore.{CoreValue, IsPinningAt, first_call, least_present}
+use Rattle.txc_txn_ports.specs.Turns.{PortTurn, IsAsk}
 
 -- ---- the call continues
 
@@ -106,7 +106,7 @@ PresentPinTransition None old objects new objects' turn = StandsStill old object
 -- ---- replies
 
 -- a hit counts if a member is in its reach; anything else is a miss
-pub record HitTransition (next : Next) (old : CoreValue) (objects : Objects) (k : Call) (hit : Shown)
+pub record HitTransition (next : Next) (old : CoreValue) (objects : Objects) (k : Call) (hit : HitValue)
     (new : CoreValue) (objects' : Objects) (turn : PortTurn) : Type 0 where
   pub held : kept hit.reach old.pins.members ≢ []
       → CallTransition next old objects (needs.Lookup k) (replies.Hit hit) new objects' turn

@@ -9,7 +9,7 @@ mod session;
 mod txn_core;
 
 pub use pinning::{PinStep, Pinning};
-pub use receipt::{Left, Receipt};
+pub use receipt::{Receipt, Unfinished};
 pub use running_txn::RunningTxn;
 pub use session::Session;
 pub use txn_core::TxnCore;

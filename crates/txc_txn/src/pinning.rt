@@ -1,9 +1,9 @@
 ghost use Rattle.std.specs.Prelude.{◌≡◌};
 
 use txc_cushion::Pin;
-use txc_ports::TxnError;
 use txc_stamp::Stamp;
 use txc_tags::Key;
+use txc_txn_ports::TxnError;
 
 /// Steps of pinning the present.
 #[derive(Clone, Copy, Debug)]
@@ -25,7 +25,7 @@ pub struct Pinning {
 }
 
 impl Pinning {
-    ghost use Rattle.txc_txn.specs.Core.{left_stamp};
+    ghost use Rattle.txc_txn.specs.TxnCore.{left_stamp};
 
     // Returns the stamp that was pinned and not added, if there is one.
     pub(crate) fn left(&self) -> Option<Stamp>

@@ -1,7 +1,7 @@
 use txc_cushion::Pin;
 use txc_db::HistoryFront;
-use txc_ports::Recorded;
 use txc_stamp::Stamp;
+use txc_txn_ports::Recorded;
 
 /// Result of a committed read-only transaction: its snapshot, and every value that it read.
 #[derive(Drop)]
@@ -16,7 +16,7 @@ pub struct Receipt {
 
 /// Remaining work of a cancelled transaction.
 #[derive(Drop)]
-pub struct Left {
+pub struct Unfinished {
     /// The stamps of the pins that must be returned to the pincushion.
     pub give_back: Vec<Stamp>,
     /// A stamp that was pinned and not added: its hold must be removed.

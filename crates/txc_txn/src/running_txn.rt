@@ -1,19 +1,19 @@
 //! A core with the registry of its functions, whose pin set stays correct.
 ghost use Rattle.std.specs.Prelude.{◌≡◌, None, Some};
 ghost use Rattle.std.specs.Option.{ForSome};
-ghost use Rattle.txc_registry.specs.Objects.{numbers_of, AllIdle};
-ghost use Rattle.txc_ports.specs.Fronts.{front_of_reply};
+ghost use Rattle.txc_call_registry.specs.Objects.{numbers_of, AllIdle};
+ghost use Rattle.txc_txn_ports.specs.Fronts.{front_of_reply};
 
-use crate::receipt::{Left, Receipt};
+use crate::receipt::{Receipt, Unfinished};
 use crate::txn_core::TxnCore;
 use std::alloc::Global;
 use std::marker::Model;
 use txc_app::App;
+use txc_call_registry::{Cacheable, Registry};
 use txc_node::Value;
-use txc_ports::{PortReply, PortRequest, Turn, TxnError};
-use txc_registry::{Cacheable, Registry};
 use txc_stamp::Stamp;
 use txc_tags::Key;
+use txc_txn_ports::{PortReply, PortRequest, Turn, TxnError};
 
 /// A read-only transaction with the registry of its functions. Its pin set is correct in the history that it
 /// has seen.
@@ -33,8 +33,8 @@ impl<A: App, C: Cacheable> Drop for RunningTxn<A, C> {
 }
 
 impl<A: App, C: Cacheable> Model for RunningTxn<A, C> {
-    ghost use Rattle.txc_txn.specs.Core.{value_of};
-    ghost use Rattle.txc_txn.specs.Kept.{TxnValue, IsTxn};
+    ghost use Rattle.txc_txn.specs.TxnCore.{value_of};
+    ghost use Rattle.txc_txn.specs.RunningTxn.{TxnValue, IsTxn};
 
     ghost Value = { TxnValue };
 
@@ -44,8 +44,8 @@ impl<A: App, C: Cacheable> Model for RunningTxn<A, C> {
 }
 
 impl<A: App, C: Cacheable> RunningTxn<A, C> {
-    ghost use Rattle.txc_txn.specs.Core.{left_pin, receipt_pin, value_of, Explains, IsAnswered, IsIdle};
-    ghost use Rattle.txc_txn.specs.Kept.{HasBegunCall, HasGoneOn, IsShownRight, IsTxn};
+    ghost use Rattle.txc_txn.specs.TxnCore.{left_pin, receipt_pin, value_of, Explains, IsAnswered, IsIdle};
+    ghost use Rattle.txc_txn.specs.RunningTxn.{HasBegunCall, HasGoneOn, IsShownRight, IsTxn};
 
     /// Joins the core with its registry. The pin set must be correct in the history that the core has seen.
     pub fn new(core: TxnCore, registry: Registry<A, C>) -> RunningTxn<A, C>
@@ -124,7 +124,7 @@ impl<A: App, C: Cacheable> RunningTxn<A, C> {
 
     /// Cancels the transaction, also in the middle of a call, and returns the remaining work, and the registry.
     /// Does not allocate.
-    pub fn cancel(self) -> (Left, Registry<A, C>)
+    pub fn cancel(self) -> (Unfinished, Registry<A, C>)
         ensures give_back { result.0.give_back.items ≡ self.core.taken }
         ensures unpin { result.0.unpin ≡ left_pin self.core.pinning }
         ensures functions { numbers_of result.1 ≡ numbers_of self.objects }

@@ -1,7 +1,7 @@
 //! A caller's least stamp in a history.
 ghost use Rattle.std.specs.Prelude.{◌≡◌, ◌++◌, ◌∷◌, [], List, max};
-ghost use Rattle.txc_db.specs.Seen.{FrontValue};
-ghost use Rattle.txc_txn.specs.Sessions.{floor_after, noted_commit, noted_receipt, Deed, IsFloorOf};
+ghost use Rattle.txc_db.specs.FrontsAndFeeds.{FrontValue};
+ghost use Rattle.txc_txn.specs.Sessions.{floor_after, noted_commit, noted_receipt, SessionEvent, IsFloorOf};
 
 use crate::receipt::Receipt;
 use std::marker::Model;
@@ -52,7 +52,7 @@ impl Session {
     /// Notes the pin of a read-only transaction's receipt. A receipt without a pin changes nothing.
     pub fn note_receipt(&mut self, receipt: &Receipt)
         ensures floor { self.new ≡ floor_after self.old receipt.now.pin }
-        ensures noted { (deeds : List Deed) → IsFloorOf deeds self.old
+        ensures noted { (deeds : List SessionEvent) → IsFloorOf deeds self.old
             → IsFloorOf (deeds ++ noted_receipt receipt.now ∷ []) self.new }
     {
         self.note_pin(receipt.pin);
@@ -70,7 +70,7 @@ impl Session {
     /// Notes the newest stamp after a commit of a read-write transaction.
     pub fn note_commit(&mut self, stamp: Stamp)
         ensures floor { self.new ≡ max self.old stamp }
-        ensures noted { (deeds : List Deed) (seen : FrontValue) → IsFloorOf deeds self.old
+        ensures noted { (deeds : List SessionEvent) (seen : FrontValue) → IsFloorOf deeds self.old
             → IsFloorOf (deeds ++ noted_commit stamp seen ∷ []) self.new }
     {
         self.floor = later(self.floor, stamp);

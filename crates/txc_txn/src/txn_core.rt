@@ -1,8 +1,8 @@
 ghost use Rattle.std.specs.Prelude.{◌≡◌, ◌<◌, true, vec_len, vec_capacity, ◌≤◌, All, IfErr, IfOk, map};
 ghost use Rattle.txc_db.specs.History.{History};
 ghost use Rattle.txc_app.specs.Eval.{Next};
-ghost use Rattle.txc_registry.specs.Objects.{AllIdle, Objects};
-ghost use Rattle.txc_ports.specs.Answers.{IsFresh};
+ghost use Rattle.txc_call_registry.specs.Objects.{AllIdle, Objects};
+ghost use Rattle.txc_txn_ports.specs.Answers.{IsFresh};
 ghost use Rattle.txc_pinset.specs.Members.{choice_of};
 
 mod answers;
@@ -17,8 +17,8 @@ use txc_call::CallMachine;
 use txc_cushion::{Pin, Pins};
 use txc_db::HistoryFront;
 use txc_pinset::{Choice, PinSet};
-use txc_ports::{Bounds, Recorded};
 use txc_stamp::Stamp;
+use txc_txn_ports::{Bounds, Recorded};
 
 /// A read-only transaction that makes one port request at a time, and continues with the reply.
 ///
@@ -50,8 +50,8 @@ fn stamps_of(alloc: Global, pins: &[Pin]) -> Result<Vec<Stamp>, AllocError>
 }
 
 impl TxnCore {
-    ghost use Rattle.txc_txn.specs.Core.{begun_core, value_of};
-    ghost use Rattle.txc_txn.specs.Core.{CoreHolds, IsCore, IsIdle};
+    ghost use Rattle.txc_txn.specs.TxnCore.{begun_core, value_of};
+    ghost use Rattle.txc_txn.specs.TxnCore.{CoreHolds, IsCore, IsIdle};
 
     /// Begins with the pins that were issued for its bounds. `nodes` is the number of nodes. It renews its
     /// newest pin if that one's time is more than `renew_after` milliseconds before the bounds' `now`. If

@@ -3,19 +3,19 @@ use Rattle.std.proofs.Common.{◌≡◌, ℕ, zero, suc, ◌+◌, ◌<◌, ◌�
 use Rattle.std.proofs.lemmas.List.Elements.{All-nil, All-cons, All-head, All-tail}
 use Rattle.std.proofs.lemmas.List.Kept.{AllPairs-cons}
 use Rattle.txc_rows.specs.States.{State}
-use Rattle.txc_db.specs.Worked.{worked}
+use Rattle.txc_db.specs.WorkedHistory.{worked}
 use Rattle.txc_db.specs.History.{state_at}
 use Rattle.txc_cushion.specs.declared.pin.Pin.{Pin}
-use Rattle.txc_cushion.specs.Pinning.{Falls}
+use Rattle.txc_cushion.specs.Pin.{PinsDescend}
 use Rattle.txc_app.specs.declared.ask.Answer.{Answer}
 use Rattle.txc_app.specs.declared.ask.Answer.TheVariants as answers
 use Rattle.txc_app.specs.Eval.{activation, call_below, eval}
-use Rattle.txc_app.specs.Answering.{AreRight, IsRight}
-use Rattle.txc_functions.specs.Program.{program}
-use Rattle.txc_call.specs.Calling.{InCall}
-use Rattle.txc_ports.specs.declared.recorded.Recorded.{Recorded}
-use Rattle.txc_ports.specs.Answers.{IsFresh, AreConsistent}
-use Rattle.txc_uses.specs.Worked.{WorkedMeanings, an_a, at_rest, bodies, newer_pin, older_pin, within_ms, bodies_and_9, open_over, while_a}
+use Rattle.txc_app.specs.AnswersSoFar.{AreRight, IsRight}
+use Rattle.txcache_functions.specs.Program.{program}
+use Rattle.txc_call.specs.CallMachine.{InCall}
+use Rattle.txc_txn_ports.specs.declared.recorded.Recorded.{Recorded}
+use Rattle.txc_txn_ports.specs.Answers.{IsFresh, AreConsistent}
+use Rattle.txc_uses.specs.WorkedPinSets.{WorkedMeanings, an_a, at_rest, bodies, newer_pin, older_pin, within_ms, bodies_and_9, open_over, while_a}
 
 older_fresh : IsFresh worked (within_ms 1500) older_pin
 older_fresh = record { shown = refl; allowed = record { moment = 1000; pinned = refl; fresh = omega arith; late = omega arith } }
@@ -23,7 +23,7 @@ older_fresh = record { shown = refl; allowed = record { moment = 1000; pinned = 
 newer_fresh : IsFresh worked (within_ms 1500) newer_pin
 newer_fresh = record { shown = refl; allowed = record { moment = 2000; pinned = refl; fresh = omega arith; late = omega arith } }
 
-one_falls : (p : Pin) → Falls (p ∷ [])
+one_falls : (p : Pin) → PinsDescend (p ∷ [])
 one_falls p = AllPairs-cons (λ (newer older : Pin). older.stamp < newer.stamp) p [] (All-nil (λ (m : Pin). m.stamp < p.stamp)) (λ i j d before below. omega (arith, before, below))
 
 none_recorded : (s : State) → AreConsistent program [] s

@@ -1,20 +1,20 @@
 //! Functions: their definitions, their objects, registries of them; and a call with replies made by hand.
 ghost use Rattle.std.specs.Prelude.{◌≡◌, IfOk};
-ghost use Rattle.txc_functions.specs.AnyFunction.{ALL_NUMBERS};
-ghost use Rattle.txc_registry.specs.Objects.{numbers_of, AllIdle};
+ghost use Rattle.txcache_functions.specs.AnyFunction.{ALL_NUMBERS};
+ghost use Rattle.txc_call_registry.specs.Objects.{numbers_of, AllIdle};
 
 use anyhow::Result;
 use std::alloc::Global;
 use txc_app::{Answer, Ask, Rows};
 use txc_call::{CallMachine, Reply};
-use txc_definition::{Definition, Function, Or};
-use txc_functions::{
+use txc_call_definition::{Definition, Function, OneOf};
+use txc_call_permits::PermitPool;
+use txc_call_registry::{Cacheable, Registry, enlist};
+use txc_tags::Key;
+use txcache_functions::{
     Again, AnyFunction, BodiesAndBody, BodiesIn, BodyAt, IdsIn, Itself, Object, Program, RowCount,
     object_of_each, registry,
 };
-use txc_permits::PermitPool;
-use txc_registry::{Cacheable, Registry, enlist};
-use txc_tags::Key;
 
 /// Returns an answer of no rows.
 fn none(alloc: Global) -> Answer {
@@ -39,7 +39,7 @@ pub fn definitions(alloc: Global) -> Result<bool> {
     let other = is_done(alloc, &BodiesAndBody)? || is_done(alloc, &RowCount)?;
     let more = is_done(alloc, &Itself)? || is_done(alloc, &Again)?;
     let last = is_done(alloc, &IdsIn)? || is_done(alloc, &AnyFunction::RowCount(RowCount))?;
-    Ok(one || other || more || last || is_done(alloc, &Or::<BodyAt, Itself>::One(BodyAt))?)
+    Ok(one || other || more || last || is_done(alloc, &OneOf::<BodyAt, Itself>::One(BodyAt))?)
 }
 
 /// Makes an object of a function, and one in a box.

@@ -1,4 +1,4 @@
-//! Calls of the libraries of single threads at the types of a program. `txc_thread_uses` calls those that
+//! Calls of the libraries of single threads at the types of a program. `txc_uses_threads` calls those that
 //! threads share.
 //!
 //! A contract is proved of each function by itself, and a generic one from its bounds only. Here callers show

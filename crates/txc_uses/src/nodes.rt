@@ -4,12 +4,12 @@ ghost use Rattle.std.specs.Prelude.{◌≡◌, ◌<◌, IfOk};
 use anyhow::Result;
 use std::alloc::Global;
 use txc_db::DbCore;
-use txc_functions::Program;
-use txc_node::{Entry, Shown};
+use txc_node::{Entry, HitValue};
 use txc_shared::{NodeSettings, StoredNode};
 use txc_stamp::Stamp;
-use txc_stream::{EventRow, Pen};
+use txc_stream::{AppendToken, EventRow};
 use txc_tags::Key;
+use txcache_functions::Program;
 
 const SETTINGS: NodeSettings = NodeSettings {
     number: 0,
@@ -32,7 +32,7 @@ fn find(alloc: Global, node: &mut StoredNode<Program>) -> Result<bool> {
     let Some(found) = node.lookup(alloc, pass, &key, Stamp::ZERO, Stamp::ZERO)? else {
         return Ok(false);
     };
-    let Shown { reach, value, tags } = found.answer;
+    let HitValue { reach, value, tags } = found.answer;
     let entry = Entry {
         key,
         value,
@@ -94,6 +94,6 @@ pub fn stored(alloc: Global) -> Result<(usize, bool)> {
 pub fn unstored(alloc: Global) -> Result<(usize, bool)> {
     let database = DbCore::new(alloc, 4)?;
     let seen = database.reader()?;
-    let node = StoredNode::<Program>::unstored(alloc, SETTINGS, Pen::new(), seen)?;
+    let node = StoredNode::<Program>::unstored(alloc, SETTINGS, AppendToken::new(), seen)?;
     steps(alloc, &database, node)
 }

@@ -1,20 +1,20 @@
 //! Transactions, with replies made by hand.
 ghost use Rattle.std.specs.Prelude.{◌≡◌, [], IfOk};
-ghost use Rattle.txc_txn.specs.Core.{IsIdle};
+ghost use Rattle.txc_txn.specs.TxnCore.{IsIdle};
 
 use crate::functions::functions;
 use anyhow::{Result, bail};
 use std::alloc::Global;
 use txc_cushion::Pins;
 use txc_db::{DbCore, DbError};
-use txc_functions::{Object, Program};
 use txc_pinset::{Choice, PinSet};
-use txc_ports::{Bounds, PortReply, PortRequest, Turn};
 use txc_rows::Query;
-use txc_rw::RwCore;
 use txc_stamp::{Reach, Stamp};
 use txc_tags::{Key, Table};
 use txc_txn::{RunningTxn, TxnCore};
+use txc_txn_ports::{Bounds, PortReply, PortRequest, Turn};
+use txc_txn_rw::RwCore;
+use txcache_functions::{Object, Program};
 
 /// Bounds that a pin of the last half second meets.
 const BOUNDS: Bounds = Bounds {

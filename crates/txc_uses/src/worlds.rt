@@ -3,9 +3,9 @@ ghost use Rattle.std.specs.Prelude.{◌<◌, IfOk};
 
 use anyhow::Result;
 use std::alloc::Global;
-use txc_functions::{Object, Program, registries};
-use txc_permits::PermitPool;
-use txc_world::{Act, Keep, Step, World, WorldSettings};
+use txc_call_permits::PermitPool;
+use txc_world::{ActorStep, KeeperStep, Step, World, WorldSettings};
+use txcache_functions::{Object, Program, registries};
 
 const SETTINGS: WorldSettings = WorldSettings {
     capacity: 64,
@@ -40,8 +40,8 @@ pub fn shown(alloc: Global) -> Result<usize> {
 /// Makes steps of an actor and of the keeper.
 pub fn steps(alloc: Global) -> Result<usize> {
     let mut world = world(alloc)?;
-    let _reply = world.step(alloc, &Step::Actor(0, Act::BeginRw));
-    let replies = world.run(alloc, &[Step::Keeper(Keep::Vacuum)])?;
+    let _reply = world.step(alloc, &Step::Actor(0, ActorStep::BeginRw));
+    let replies = world.run(alloc, &[Step::Keeper(KeeperStep::Vacuum)])?;
     let is_reading = world.pins(0).is_ok();
     let (database, _) = world.into_parts();
     let room = database.front()?.room();

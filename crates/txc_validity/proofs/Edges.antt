@@ -7,7 +7,7 @@ use Rattle.txc_rows.specs.declared.query.Query.{Query}
 use Rattle.txc_rows.specs.Values.{RowValue}
 use Rattle.txc_rows.specs.Versions.{row_of, suits, is_visible, lives_at, shown_at, Follows, Pairwise, IsVersion, AreVersions}
 use Rattle.txc_rows.proofs.Offered.{IsIn, both_true, and_true, in_filter, from_filter}
-use Rattle.txc_validity.specs.Turning.{Turns}
+use Rattle.txc_validity.specs.Changes.{Turns}
 
 -- a version that matches begins or ends at the stamp
 abbrev pub IsEdge : Query → List Versioned → ℕ → Type 0

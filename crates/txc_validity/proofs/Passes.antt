@@ -7,8 +7,8 @@ use Rattle.txc_rows.specs.declared.version.Versioned.{Versioned}
 use Rattle.txc_rows.specs.declared.query.Query.{Query}
 use Rattle.txc_rows.specs.Versions.{row_of, suits, is_visible, shown_at, AreVersions}
 use Rattle.txc_rows.proofs.Offered.{IsIn}
-use Rattle.txc_validity.specs.Turning.{Turns, IsSteady}
-use Rattle.txc_rows.specs.Around.{HoldsOn}
+use Rattle.txc_validity.specs.Changes.{Turns, IsSteady}
+use Rattle.txc_rows.specs.FoundAnswers.{HoldsOn}
 use Rattle.txc_validity.specs.Validity.{IsValidity}
 use Rattle.txc_validity.proofs.Edges.{IsEdge, edge}
 

@@ -6,9 +6,9 @@ use Rattle.txc_rows.specs.declared.query.Query.{Query}
 use Rattle.txc_rows.specs.declared.version.Versioned.{Versioned}
 use Rattle.txc_rows.specs.States.{State, answer}
 use Rattle.txc_rows.specs.Versions.{shown_at}
-use Rattle.txc_rows.specs.Keeping.{ShowsAnswers}
+use Rattle.txc_rows.specs.KeptStates.{ShowsAnswers}
 use Rattle.txc_validity.specs.declared.answer.Found.{Found}
-use Rattle.txc_rows.specs.Around.{HoldsOn}
+use Rattle.txc_rows.specs.FoundAnswers.{HoldsOn}
 use Rattle.txc_validity.specs.Validity.{IsValidity}
 use Rattle.txc_validity.specs.Answers.{IsAnswer}
 use Rattle.txc_validity.specs.Laws.{SameWithin, DiffersBelow, DiffersAbove, OneValidity, KeptAnswersDecide, AroundIsValid}

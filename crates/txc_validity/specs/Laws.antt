@@ -6,7 +6,7 @@ use Rattle.txc_rows.specs.declared.version.Versioned.{Versioned}
 use Rattle.txc_rows.specs.Values.{RowValue}
 use Rattle.txc_rows.specs.States.{State, answer}
 use Rattle.txc_rows.specs.Versions.{shown_at}
-use Rattle.txc_rows.specs.Around.{ShowsAround}
+use Rattle.txc_rows.specs.FoundAnswers.{ShowsAround}
 use Rattle.txc_validity.specs.Validity.{IsValidity}
 
 -- every stamp of the reach has the answer of t

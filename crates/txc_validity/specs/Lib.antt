@@ -1,4 +1,4 @@
-pub mod Validity
 pub mod Answers
-pub mod Turning
+pub mod Changes
 pub mod Laws
+pub mod Validity

@@ -2,7 +2,7 @@
 use Rattle.std.specs.Prelude.{◌≡◌, ◌==◌, ℕ, ◌≤◌, List}
 use Rattle.txc_stamp.specs.Interval.{Interval}
 use Rattle.txc_rows.specs.Values.{RowValue}
-use Rattle.txc_rows.specs.Around.{HoldsOn}
+use Rattle.txc_rows.specs.FoundAnswers.{HoldsOn}
 
 -- the largest interval of stamps around t, from the horizon to the newest stamp, on which the answer is the
 -- same list; it is known to its last stamp, and still valid if that is the newest

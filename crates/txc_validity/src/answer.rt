@@ -2,10 +2,10 @@ ghost use Rattle.std.specs.Prelude.{◌≡◌, ◌↔◌, ◌≤◌, ◌<◌, �
 ghost use Rattle.txc_rows.specs.States.{State};
 ghost use Rattle.txc_rows.specs.RowTags.{query_tag};
 ghost use Rattle.txc_rows.specs.Versions.{shown_at, is_visible, IsVersion, AreVersions};
-ghost use Rattle.txc_rows.specs.Keeping.{ShowsAnswers};
+ghost use Rattle.txc_rows.specs.KeptStates.{ShowsAnswers};
 ghost use Rattle.txc_validity.specs.Validity.{IsValidity};
 ghost use Rattle.txc_validity.specs.Answers.{IsAnswer};
-ghost use Rattle.txc_validity.specs.Turning.{Turns, IsSteady};
+ghost use Rattle.txc_validity.specs.Changes.{Turns, IsSteady};
 
 use crate::error::ValidityError;
 use std::alloc::{AllocError, Global};

@@ -4,16 +4,16 @@ use Rattle.std.specs.Prelude.{◌≡◌, ℕ, ◌≤◌, ◌==◌, ◌⊎◌, na
 use Rattle.std.specs.List.{filter}
 use Rattle.txc_tags.specs.Keys.{Call}
 use Rattle.txc_app.specs.Eval.{Next}
-use Rattle.txc_registry.specs.Objects.{numbers_of, AllIdle}
-use Rattle.txc_ports.specs.declared.bounds.Bounds.{Bounds}
-use Rattle.txc_ports.specs.declared.error.TxnError.{TxnError}
-use Rattle.txc_ports.specs.declared.error.TxnError.TheVariants as refusals
-use Rattle.txc_ports.specs.declared.recorded.Recorded.{Recorded}
-use Rattle.txc_txn.specs.Core.{Explains}
-use Rattle.txc_txn.specs.Kept.{IsTxn}
+use Rattle.txc_call_registry.specs.Objects.{numbers_of, AllIdle}
+use Rattle.txc_txn_ports.specs.declared.bounds.Bounds.{Bounds}
+use Rattle.txc_txn_ports.specs.declared.error.TxnError.{TxnError}
+use Rattle.txc_txn_ports.specs.declared.error.TxnError.TheVariants as refusals
+use Rattle.txc_txn_ports.specs.declared.recorded.Recorded.{Recorded}
+use Rattle.txc_txn.specs.TxnCore.{Explains}
+use Rattle.txc_txn.specs.RunningTxn.{IsTxn}
 use Rattle.txc_txn.specs.declared.receipt.Receipt.{Receipt}
-use Rattle.txc_client.specs.Run.{HasRun}
-use Rattle.txc_client.specs.Txn.{RoTxnValue}
+use Rattle.txc_txn_client.specs.Run.{HasRun}
+use Rattle.txc_txn_client.specs.RoTxn.{RoTxnValue}
 use Rattle.txc_work.specs.declared.error.BatchError.{BatchError}
 use Rattle.txc_work.specs.declared.error.BatchError.TheVariants.{Missing, Twice, Memory}
 use Rattle.txc_work.specs.declared.job.Job.{Job}
@@ -43,7 +43,7 @@ pub record IsRefusedAt (next : Next) (row : Name) (node_histories : ℕ → Name
   pub old : RoTxnValue
   pub new : RoTxnValue
   pub stands : keys ≡ before ++ key ∷ after
-  pub meant : IsTxn next old.txn
+  pub valid : IsTxn next old.txn
   pub idle : AllIdle old.txn.objects
   pub of_functions : numbers_of old.txn.objects ≡ functions
   pub bounded : old.txn.core.bounds ≡ bounds

@@ -3,8 +3,8 @@ use Rattle.std.specs.Prelude.{◌≡◌, ℕ, List, Option}
 use Rattle.crossbeam_queue.specs.Passes.{IsPassOf}
 use Rattle.crossbeam_queue.specs.declared.array_queue.Doing.{Doing}
 use Rattle.crossbeam_queue.specs.declared.array_queue.Slotted.{Slotted}
-use Rattle.txc_registry.specs.Objects.{numbers_of}
-use Rattle.txc_client.specs.Txn.{ClientValue}
+use Rattle.txc_call_registry.specs.Objects.{numbers_of}
+use Rattle.txc_txn_client.specs.RoTxn.{ClientValue}
 use Rattle.txc_work.specs.declared.job.Job.{Job}
 use Rattle.txc_work.specs.declared.job.Outcome.{Outcome}
 use Rattle.txc_work.specs.declared.job.Receipted.{Receipted}

@@ -3,7 +3,7 @@ ghost use denote.Param.Send.{IsSend, IsSync};
 ghost use Rattle.std.specs.Prelude.{◌≡◌, ◌+◌, ◌<◌, ◌≤◌, [], ℕ, List, All, Err, IfErr, IfOk, IsOk, IsPermutation, vec_capacity, vec_len};
 ghost use Rattle.std.specs.List.Sorted.{IsStrictlyIncreasing};
 ghost use Rattle.crossbeam_queue.specs.Passes.{IsPassOf};
-ghost use Rattle.txc_registry.specs.Objects.{numbers_of};
+ghost use Rattle.txc_call_registry.specs.Objects.{numbers_of};
 ghost use Rattle.txc_work.specs.Batches.{job_numbers, result_numbers, IsLeastTwice, IsResultOf, Meets, NamesOneOf};
 ghost use Rattle.txc_work.specs.Workers.{Implies, IsWorkerOf};
 
@@ -19,9 +19,9 @@ use std::marker::Brand;
 use std::sync::Wait;
 use std::thread::{self, Threads};
 use txc_app::App;
-use txc_client::Client;
+use txc_call_registry::Cacheable;
 use txc_db::Naming;
-use txc_registry::Cacheable;
+use txc_txn_client::Client;
 
 /// The most clients of a batch.
 pub const MAX_CLIENTS: usize = 8;

@@ -1,6 +1,6 @@
-use txc_ports::{Bounds, TxnError};
 use txc_tags::Key;
 use txc_txn::Receipt;
+use txc_txn_ports::{Bounds, TxnError};
 
 /// A read-only transaction to run: its number in its batch, the bounds of its snapshot, and its calls, in
 /// order.

@@ -1,6 +1,6 @@
 //! A job's transaction.
 ghost use Rattle.std.specs.Prelude.{◌≡◌, [], IfErr, OnOk};
-ghost use Rattle.txc_registry.specs.Objects.{numbers_of};
+ghost use Rattle.txc_call_registry.specs.Objects.{numbers_of};
 ghost use Rattle.txc_work.specs.Batches.{keys_of, IsRefusedAt, Meets};
 
 use crate::gate::Gate;
@@ -8,11 +8,11 @@ use crate::job::{Job, Outcome, Receipted};
 use std::alloc::Global;
 use std::sync::Wait;
 use txc_app::App;
-use txc_client::{Client, RoTxn};
+use txc_call_registry::Cacheable;
 use txc_db::Naming;
-use txc_ports::TxnError;
-use txc_registry::Cacheable;
 use txc_tags::Key;
+use txc_txn_client::{Client, RoTxn};
+use txc_txn_ports::TxnError;
 
 /// Runs the job between the two calls of the gate.
 pub(crate) fn run_job<'a, A: App, C: Cacheable, J: Naming, G: Gate>(

@@ -1,7 +1,7 @@
 //! Workers: clients that run the jobs of a batch.
 ghost use Rattle.std.specs.Prelude.{◌≡◌, All, IfOk};
 ghost use Rattle.crossbeam_queue.specs.Passes.{IsPassOf};
-ghost use Rattle.txc_registry.specs.Objects.{numbers_of};
+ghost use Rattle.txc_call_registry.specs.Objects.{numbers_of};
 ghost use Rattle.txc_work.specs.Batches.{Meets};
 ghost use Rattle.txc_work.specs.Workers.{Implies, IsWorkerOf};
 
@@ -13,9 +13,9 @@ use crossbeam_queue::Pass;
 use std::alloc::{AllocError, Global};
 use std::sync::Wait;
 use txc_app::App;
-use txc_client::Client;
+use txc_call_registry::Cacheable;
 use txc_db::Naming;
-use txc_registry::Cacheable;
+use txc_txn_client::Client;
 
 /// A client, with its passes of both queues.
 #[derive(Drop)]

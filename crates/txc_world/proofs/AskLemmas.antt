@@ -10,25 +10,25 @@ use Rattle.txc_db.specs.declared.error.DbError.{DbError}
 use Rattle.txc_db.specs.declared.error.DbError.TheVariants.{Memory}
 use Rattle.txc_db.specs.declared.pinned.Pinned.{Pinned}
 use Rattle.txc_db.specs.History.{History, pin_event}
-use Rattle.txc_db.specs.Seen.{FrontValue}
+use Rattle.txc_db.specs.FrontsAndFeeds.{FrontValue}
 use Rattle.txc_node.specs.declared.entry.Entry.{Entry}
-use Rattle.txc_node.specs.declared.hit.Shown.{Shown}
+use Rattle.txc_node.specs.declared.hit.HitValue.{HitValue}
 use Rattle.txc_cushion.specs.declared.error.AddError.{AddError}
 use Rattle.txc_app.specs.Claims.{IsTrueIn, entry_shown}
 use Rattle.txc_app.specs.Eval.{Next}
 use Rattle.txc_shared.specs.declared.insertion.Insertion.{Insertion}
 use Rattle.txc_shared.specs.Nodes.{NodeValue}
-use Rattle.txc_ports.specs.declared.kept.Kept.{Kept}
-use Rattle.txc_ports.specs.declared.kept.Kept.TheVariants as kepts
-use Rattle.txc_ports.specs.declared.request.PortRequest.{PortRequest}
-use Rattle.txc_ports.specs.declared.request.PortRequest.TheVariants as requests
-use Rattle.txc_ports.specs.declared.reply.PortReply.{PortReply}
-use Rattle.txc_ports.specs.declared.reply.PortReply.TheVariants as replies
-use Rattle.txc_world.specs.declared.did.Did.{Did}
-use Rattle.txc_world.specs.declared.did.Did.TheVariants as dids
+use Rattle.txc_txn_ports.specs.declared.kept.Kept.{Kept}
+use Rattle.txc_txn_ports.specs.declared.kept.Kept.TheVariants as kepts
+use Rattle.txc_txn_ports.specs.declared.request.PortRequest.{PortRequest}
+use Rattle.txc_txn_ports.specs.declared.request.PortRequest.TheVariants as requests
+use Rattle.txc_txn_ports.specs.declared.reply.PortReply.{PortReply}
+use Rattle.txc_txn_ports.specs.declared.reply.PortReply.TheVariants as replies
+use Rattle.txc_world.specs.declared.port_outcome.PortOutcome.{PortOutcome}
+use Rattle.txc_world.specs.declared.port_outcome.PortOutcome.TheVariants as dids
 use Rattle.txc_world.specs.Parts.{IsPartOf}
 use Rattle.txc_world.specs.Ports.{PortsValue, whole_of, KeepsRow, HasLedNode}
-use Rattle.txc_world.specs.Asks.{kept_after, AddTransition, AnswersRows, DoesTell, FindTransition, IsAsked, IsAskedAt, IsTold, PinTransition, PortRequestTransition, UnpinTransition}
+use Rattle.txc_world.specs.PortRequests.{kept_after, AddTransition, AnswersRows, DoesTell, FindTransition, IsAsked, IsAskedAt, IsTold, PinTransition, PortRequestTransition, UnpinTransition}
 use Rattle.txc_world.specs.Holdings.{CountRight}
 use Rattle.txc_world.specs.NodeSteps.{InsertTransition, LookupTransition}
 use Rattle.txc_world.proofs.Fairness.{counts_add, counts_pin, counts_query, counts_unpin, fair_led}
@@ -54,7 +54,7 @@ module _ (next : Next) (pass : ℕ) (seen : FrontValue) (old new : PortsValue) (
     to = (h.moment, h.late, h.shown);
     row = for_this (λ (f : FrontValue). f.events ≡ old.database.events) pinned.front (ap (λ (f : FrontValue). f.events) h.front ∙ keeps.events);
     shown = for_this (IsPartOf (whole_of new)) pinned.front (subst (IsPartOf (whole_of new)) (sym h.front) (part_itself (whole_of new)));
-    leads = h;
+    transition = h;
     keeps = keeps;
     spare = ap (λ (p : PortsValue). p.spare) h.after;
     counts = counts_pin old new now at_least (Ok pinned) h;
@@ -63,7 +63,7 @@ module _ (next : Next) (pass : ℕ) (seen : FrontValue) (old new : PortsValue) (
     to = tt;
     row = for_none (λ (f : FrontValue). f.events ≡ old.database.events);
     shown = for_none (IsPartOf (whole_of new));
-    leads = h;
+    transition = h;
     keeps = keeps;
     spare = ap (λ (p : PortsValue). p.spare) h.0.is;
     counts = counts_pin old new now at_least (Err e) h;
@@ -79,7 +79,7 @@ module _ (next : Next) (pass : ℕ) (seen : FrontValue) (old new : PortsValue) (
     to = refl;
     row = for_this (λ (f : FrontValue). f.events ≡ old.database.events) pinned.front part.row;
     shown = for_this (IsPartOf (whole_of new)) pinned.front (still_part old new pinned.front keeps part);
-    leads = h;
+    transition = h;
     keeps = keeps;
     spare = spare_added pinned added h;
     counts = counts_add old new pinned added right h;
@@ -95,13 +95,13 @@ module _ (next : Next) (pass : ℕ) (seen : FrontValue) (old new : PortsValue) (
     to = tt;
     row = for_none (λ (f : FrontValue). f.events ≡ old.database.events);
     shown = for_none (IsPartOf (whole_of new));
-    leads = h;
+    transition = h;
     keeps = keeps;
     spare = spare_unpinned stamp unpinned h;
     counts = counts_unpin old new stamp unpinned right h;
   }
 
-  pub asked_lookup : (node : ℕ) (key : Call) (lo hi : ℕ) (hit : Option (Answered Shown))
+  pub asked_lookup : (node : ℕ) (key : Call) (lo hi : ℕ) (hit : Option (Answered HitValue))
       → HasLedNode node (λ was is. LookupTransition pass key lo hi was is (option_map (λ h. h.answer) hit)) old new
       → IfSome hit (λ h. IsTrueIn next h.front.history (entry_shown key h.answer)) → IfSome hit (λ h. IsPartOf (whole_of old) h.front)
       → IsAsked next pass seen (requests.Lookup node key lo hi) old new (replies.Lookup hit)
@@ -109,19 +109,19 @@ module _ (next : Next) (pass : ℕ) (seen : FrontValue) (old new : PortsValue) (
     to = true_in;
     row = for_this (λ (f : FrontValue). f.events ≡ old.database.events) hit.front part.row;
     shown = for_this (IsPartOf (whole_of new)) hit.front (still_part old new hit.front keeps part);
-    leads = led;
+    transition = led;
     keeps = keeps;
     spare = ap (λ (p : PortsValue). p.spare) led.is;
-    counts = record { fair = fair_led old new node _ led; gone = tt };
+    counts = record { own_only = fair_led old new node _ led; gone = tt };
   }
   asked_lookup node key lo hi None led true_in part = record {
     to = tt;
     row = for_none (λ (f : FrontValue). f.events ≡ old.database.events);
     shown = for_none (IsPartOf (whole_of new));
-    leads = led;
+    transition = led;
     keeps = keeps;
     spare = ap (λ (p : PortsValue). p.spare) led.is;
-    counts = record { fair = fair_led old new node _ led; gone = tt };
+    counts = record { own_only = fair_led old new node _ led; gone = tt };
   }
 
   pub asked_insert : (node : ℕ) (entry : Entry) (made : Option Insertion) (kept : Option Kept) → kept ≡ kept_after made
@@ -131,10 +131,10 @@ module _ (next : Next) (pass : ℕ) (seen : FrontValue) (old new : PortsValue) (
     to = tt;
     row = for_none (λ (f : FrontValue). f.events ≡ old.database.events);
     shown = for_none (IsPartOf (whole_of new));
-    leads = (made, is, led);
+    transition = (made, is, led);
     keeps = keeps;
     spare = ap (λ (p : PortsValue). p.spare) led.is;
-    counts = record { fair = fair_led old new node _ led; gone = tt };
+    counts = record { own_only = fair_led old new node _ led; gone = tt };
   }
 
   pub asked_query : (query : Query) (stamp : ℕ) (found : Result (Answered Found) DbError) → new ≡ old → FindTransition query stamp old found
@@ -143,7 +143,7 @@ module _ (next : Next) (pass : ℕ) (seen : FrontValue) (old new : PortsValue) (
     to = h.0.over;
     row = for_this (λ (f : FrontValue). f.events ≡ old.database.events) found.front (ap (λ (f : FrontValue). f.events) h.0.front);
     shown = for_this (IsPartOf (whole_of new)) found.front (still_part old new found.front keeps (subst (IsPartOf (whole_of old)) (sym h.0.front) (part_itself (whole_of old))));
-    leads = (same, h);
+    transition = (same, h);
     keeps = keeps;
     spare = ap (λ (p : PortsValue). p.spare) same;
     counts = counts_query old new query stamp (Ok found) right same h;
@@ -152,7 +152,7 @@ module _ (next : Next) (pass : ℕ) (seen : FrontValue) (old new : PortsValue) (
     to = tt;
     row = for_none (λ (f : FrontValue). f.events ≡ old.database.events);
     shown = for_none (IsPartOf (whole_of new));
-    leads = (same, h);
+    transition = (same, h);
     keeps = keeps;
     spare = ap (λ (p : PortsValue). p.spare) same;
     counts = counts_query old new query stamp (Err e) right same h;
@@ -168,12 +168,12 @@ module _ (next : Next) (pass : ℕ) (seen : FrontValue) (old new : PortsValue) w
     to = tt;
     row = for_none (λ (f : FrontValue). f.events ≡ old.database.events);
     shown = for_none (IsPartOf (whole_of new));
-    leads = (h.leads.0, h.leads.1.1);
+    transition = (h.transition.0, h.transition.1.1);
     keeps = h.keeps;
     spare = h.spare;
-    counts = record { fair = h.counts.fair; gone = tt };
+    counts = record { own_only = h.counts.own_only; gone = tt };
   }
-  wanting request (replies.Query (Ok found)) rows h = absurd h.leads
+  wanting request (replies.Query (Ok found)) rows h = absurd h.transition
   wanting request reply rows h = absurd rows
 
   pub still_asked : (request : PortRequest) (reply told : PortReply) → IsTold reply told → IsAsked next pass seen request old new reply → IsAsked next pass seen request old new told
@@ -184,18 +184,18 @@ module _ (next : Next) (pass : ℕ) (seen : FrontValue) (old new : PortsValue) w
 
 -- what is shown of anything but a pin leaves the history
 module _ (old new : History) (same : new ≡ old) (now : ℕ) where
-  tells_same : (did told : Did) → did ≡ told → did_in told now old ≡ old → new ≡ did_in did now old
-  tells_same did told is none = same ∙ (sym none ∙ ap (λ (d : Did). did_in d now old) (sym is))
+  tells_same : (did told : PortOutcome) → did ≡ told → did_in told now old ≡ old → new ≡ did_in did now old
+  tells_same did told is none = same ∙ (sym none ∙ ap (λ (d : PortOutcome). did_in d now old) (sym is))
 
-module _ (old new : PortsValue) (did : Did) (now : ℕ) where
-  led_history : (at : ℕ) (leads : NodeValue → NodeValue → Type 0) → HasLedNode at leads old new → new.database.history ≡ old.database.history
-  led_history at leads led = ap (λ (p : PortsValue). p.database.history) led.is
+module _ (old new : PortsValue) (did : PortOutcome) (now : ℕ) where
+  led_history : (at : ℕ) (transition : NodeValue → NodeValue → Type 0) → HasLedNode at transition old new → new.database.history ≡ old.database.history
+  led_history at transition led = ap (λ (p : PortsValue). p.database.history) led.is
 
   pub told_history : (pass : ℕ) (seen : FrontValue) (request : PortRequest) (reply : PortReply) → PortRequestTransition pass seen request old new reply → DoesTell reply did
       → IsAskedAt now request → new.database.history ≡ did_in did now old.database.history
   told_history pass seen (requests.Pin moment at_least) (replies.Pin (Ok pinned)) h told is =
       ap (λ (p : PortsValue). p.database.history) h.after
-      ∙ (ap (λ (m : ℕ). old.database.history ++ pin_event m ∷ []) is ∙ ap (λ (d : Did). did_in d now old.database.history) (sym told))
+      ∙ (ap (λ (m : ℕ). old.database.history ++ pin_event m ∷ []) is ∙ ap (λ (d : PortOutcome). did_in d now old.database.history) (sym told))
   told_history pass seen (requests.Pin moment at_least) (replies.Pin (Err e)) h told is =
       tells_same old.database.history new.database.history (left_history old.database new.database e h.0.left) now did (dids.Refused e) told refl
   told_history pass seen (requests.AddPin pinned) (replies.AddPin given (Ok added)) h told is =

@@ -12,8 +12,8 @@ use Rattle.txc_world.specs.declared.reply.Reply.{Reply}
 use Rattle.txc_world.specs.declared.settings.WorldSettings.{WorldSettings}
 use Rattle.txc_world.specs.declared.step.Step.{Step}
 use Rattle.txc_world.specs.Ports.{PortsValue}
-use Rattle.txc_world.specs.Keeping.{stamps_of_pins}
-use Rattle.txc_world.specs.Holdings.{account_at, account_of, holdings_of, nothing, Account, ActCounts, CountRight, HasLost, IsFair}
+use Rattle.txc_world.specs.KeeperAtPorts.{stamps_of_pins}
+use Rattle.txc_world.specs.Holdings.{account_at, account_of, holdings_of, nothing, Account, ActCounts, CountRight, HasLost, TakesOnlyItsOwn}
 use Rattle.txc_world.specs.Tidy.{nothing_in_hand, in_hand_after, in_hand_by, AreBalanced, AreTidy, IsTidy, LoseNoSnapshot, LosesNoSnapshot, LosesNothing, InHand}
 use Rattle.txc_world.specs.Worlds.{value_of_world, IsBalanced, WorldValue}
 use Rattle.txc_world.proofs.Losing.{reply_so}
@@ -41,16 +41,16 @@ module _ {A C X : Type 0} (start : X → Option (Actor A C)) (starts : (x : X) �
 -- ---- an actor steps
 
 module _ (old new : PortsValue) (accounts : List Account) (number : ℕ) (before after : Account) (there : slice_get accounts number ≡ Some before) (spare : List ℕ) (in_hand : InHand) where
-  acts_balanced : IsFair old new before after → AreBalanced spare (holdings_of old accounts) in_hand → AreBalanced spare (holdings_of new (slice_set accounts number after)) in_hand
-  acts_balanced fair h = record {
+  acts_balanced : TakesOnlyItsOwn old new before after → AreBalanced spare (holdings_of old accounts) in_hand → AreBalanced spare (holdings_of new (slice_set accounts number after)) in_hand
+  acts_balanced own_only h = record {
     held = λ t.
         let a = h.held t in
-        let b = fair.holds t in
+        let b = own_only.holds t in
         let c = sum_set (λ (x : Account). times t x.own) accounts number before after there in
         omega (arith, a, b, c);
     used = λ t.
         let a = h.used t in
-        let b = fair.users t in
+        let b = own_only.users t in
         let c = sum_set (λ (x : Account). times t x.taken) accounts number before after there in
         omega (arith, a, b, c);
   }
@@ -84,7 +84,7 @@ module _ {A C : Type 0} (settings : WorldSettings) (old new : PortsValue) (floor
       → value_of_world settings old floors actors ≡ was → value_of_world settings new floors' actors' ≡ now → IsBalanced was in_hand → IsBalanced now in_hand × LosesNothing reply
   world_balanced actors' was now reply in_hand put spare right counts shows shows' h =
       let h' = subst (λ (w : WorldValue). IsBalanced w in_hand) (sym shows) h in
-      let b = acts_balanced old new (map account_at actors) number (account_of actor) (account_of actor') account_there (stamps_of_pins old.spare) in_hand counts.fair h' in (
+      let b = acts_balanced old new (map account_at actors) number (account_of actor) (account_of actor') account_there (stamps_of_pins old.spare) in_hand counts.own_only h' in (
         subst (λ (w : WorldValue). IsBalanced w in_hand) shows' (rw (put, spare, map-set account_at actors number (Some actor')) b),
         loses_nothing old new (map account_at actors) number (account_of actor) (account_of actor') account_there (stamps_of_pins old.spare) in_hand reply right h' counts,
       )

@@ -14,16 +14,16 @@ use Rattle.txc_db.specs.History.{History, state_at, event_at, commit_event}
 use Rattle.txc_db.specs.DatabaseValue.{DatabaseValue, after_commit, after_event_of, newest, newest_net, newest_state, where_some}
 use Rattle.txc_db.specs.Calls.{IsCommittable}
 use Rattle.txc_db.specs.Laws.{StatesStay, TagsStay}
-use Rattle.txc_db.specs.Shared.{IsQuietIn, IsEventIn}
+use Rattle.txc_db.specs.DatabaseReply.{IsQuietIn, IsEventIn}
 use Rattle.txc_app.specs.Eval.{Next}
-use Rattle.txc_registry.specs.Objects.{Objects}
-use Rattle.txc_rw.specs.Core.{RwValue, RwHolds, tags_read}
-use Rattle.txc_rw.specs.Laws.{AnswersAreRight, EventCommitsAreRight, HoldsInLonger, QuietCommitsAreRight}
-use Rattle.txc_rw.specs.Outcomes.{HasChanged, HasChangedNothing}
+use Rattle.txc_call_registry.specs.Objects.{Objects}
+use Rattle.txc_txn_rw.specs.RwCore.{RwValue, RwHolds, tags_read}
+use Rattle.txc_txn_rw.specs.Laws.{AnswersAreRight, EventCommitsAreRight, HoldsInLonger, QuietCommitsAreRight}
+use Rattle.txc_txn_rw.specs.Outcomes.{HasChanged, HasChangedNothing}
 use Rattle.txc_world.specs.declared.actor.OpenCall.{OpenCall}
 use Rattle.txc_world.specs.Observation.{Writing, CommitExplains}
 use Rattle.txc_world.specs.Ports.{PortsValue}
-use Rattle.txc_world.specs.Keeping.{CommitTransition}
+use Rattle.txc_world.specs.KeeperAtPorts.{CommitTransition}
 use Rattle.txc_world.specs.Actors.{told_answers}
 
 -- ---- with a net change or none
@@ -122,16 +122,16 @@ module _ (next : Next) (objects : Objects) (c : RwValue) (d : DatabaseValue) (h 
   pub explained_lent : (old new : PortsValue) (base : ℕ) (read : List Tag) (changes : List Change) (stamp : ℕ) → old.database ≡ d → CommitTransition base read changes old new (Ok stamp)
       → base ≡ c.base → read ≡ tags_read c → changes ≡ c.changes
       → CommitExplains next new.database.history (newest d) (told_writing c) stamp
-  explained_lent old new base read changes stamp same leads one two three =
+  explained_lent old new base read changes stamp same transition one two three =
       let due : IsCommittable d c.base (tags_read c) c.changes =
       subst (λ (cs : List Change). IsCommittable d c.base (tags_read c) cs) three
       (subst (λ (r : List Tag). IsCommittable d c.base r changes) two
       (subst (λ (b : ℕ). IsCommittable d b read changes) one
-      (subst (λ (v : DatabaseValue). IsCommittable v base read changes) same leads.2))) in
+      (subst (λ (v : DatabaseValue). IsCommittable v base read changes) same transition.2))) in
       let is : new.database.history ≡ (after_commit d c.changes).history =
-      ap (λ (p : PortsValue). p.database.history) leads.0
+      ap (λ (p : PortsValue). p.database.history) transition.0
       ∙ (ap (λ (v : DatabaseValue). (after_commit v changes).history) same ∙ ap (λ (cs : List Change). (after_commit d cs).history) three) in
-      explained_commit new.database.history stamp due is leads.1
+      explained_commit new.database.history stamp due is transition.1
 
 -- and where no call is open, it is all that is shown
 pub explained_open : (next : Next) (L : History) (count : ℕ) (c : RwValue) (stamp : ℕ) (call : Option (OpenCall Query)) → call ≡ None → CommitExplains next L count (told_writing c) stamp

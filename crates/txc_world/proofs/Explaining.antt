@@ -7,10 +7,10 @@ use Rattle.txc_db.specs.Facts.{EventValue}
 use Rattle.txc_db.specs.History.{History, moment_at, pinned_moment, state_after_event, state_at}
 use Rattle.txc_cushion.specs.declared.pin.Pin.{Pin}
 use Rattle.txc_app.specs.Eval.{Next}
-use Rattle.txc_ports.specs.declared.bounds.Bounds.{Bounds}
-use Rattle.txc_ports.specs.declared.recorded.Recorded.{Recorded}
-use Rattle.txc_ports.specs.Answers.{AreConsistent}
-use Rattle.txc_txn.specs.Core.{Explains}
+use Rattle.txc_txn_ports.specs.declared.bounds.Bounds.{Bounds}
+use Rattle.txc_txn_ports.specs.declared.recorded.Recorded.{Recorded}
+use Rattle.txc_txn_ports.specs.Answers.{AreConsistent}
+use Rattle.txc_txn.specs.TxnCore.{Explains}
 
 -- a pin of a history is one of a longer one, and lies within it
 pub moment_later : (L M : History) (t moment : ℕ) → IsPrefix L M → moment_at L t ≡ Some moment → moment_at M t ≡ Some moment

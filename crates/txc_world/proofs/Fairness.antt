@@ -22,26 +22,26 @@ use Rattle.txc_cushion.specs.Entries.{times}
 use Rattle.txc_cushion.specs.declared.error.UnknownPin.{UnknownPin}
 use Rattle.txc_cushion.specs.declared.pins.Pins.{Pins}
 use Rattle.txc_cushion.specs.Laws.{GiveBackCountsUsers}
-use Rattle.txc_cushion.specs.Pinning.{is_older}
+use Rattle.txc_cushion.specs.Pin.{is_older}
 use Rattle.txc_pinset.specs.declared.choice.Choice.TheVariants.{Present, At}
 use Rattle.txc_pinset.specs.Members.{choice_among}
 use Rattle.txc_app.specs.Eval.{Next}
 use Rattle.txc_shared.specs.Nodes.{NodeValue}
-use Rattle.txc_registry.specs.Objects.{Objects}
-use Rattle.txc_ports.specs.declared.request.PortRequest.{PortRequest}
-use Rattle.txc_ports.specs.declared.request.PortRequest.TheVariants as requests
-use Rattle.txc_ports.specs.declared.reply.PortReply.{PortReply}
-use Rattle.txc_ports.specs.declared.reply.PortReply.TheVariants as replies
-use Rattle.txc_txn.specs.Core.{left_after, left_pin, taken_after, CoreAsks, CoreValue, IsCore}
-use Rattle.txc_world.specs.declared.did.Did.{Did}
-use Rattle.txc_world.specs.declared.did.Did.TheVariants as dids
+use Rattle.txc_call_registry.specs.Objects.{Objects}
+use Rattle.txc_txn_ports.specs.declared.request.PortRequest.{PortRequest}
+use Rattle.txc_txn_ports.specs.declared.request.PortRequest.TheVariants as requests
+use Rattle.txc_txn_ports.specs.declared.reply.PortReply.{PortReply}
+use Rattle.txc_txn_ports.specs.declared.reply.PortReply.TheVariants as replies
+use Rattle.txc_txn.specs.TxnCore.{left_after, left_pin, taken_after, CoreAsks, CoreValue, IsCore}
+use Rattle.txc_world.specs.declared.port_outcome.PortOutcome.{PortOutcome}
+use Rattle.txc_world.specs.declared.port_outcome.PortOutcome.TheVariants as dids
 use Rattle.txc_world.specs.Ports.{PortsValue, HasLedNode}
-use Rattle.txc_world.specs.Asks.{AddTransition, FindTransition, FreshTransition, PinTransition, UnpinTransition}
-use Rattle.txc_world.specs.Keeping.{GiveBackTransition}
+use Rattle.txc_world.specs.PortRequests.{AddTransition, FindTransition, FreshTransition, PinTransition, UnpinTransition}
+use Rattle.txc_world.specs.KeeperAtPorts.{GiveBackTransition}
 use Rattle.txc_world.specs.declared.reply.Reply.{Reply}
 use Rattle.txc_world.specs.Actors.{counted, holds_any}
-use Rattle.txc_world.specs.Holdings.{account_of_core, gained, handed, nothing, spent, stamp_if_any, Account, ActCounts, AskCounts, CountRight, HasLost, IsFair, LosesOnlyUnheld}
-use Rattle.txc_world.specs.Losing.{IfDidLose, IfGone, IfPortLoses, IfReplyLost}
+use Rattle.txc_world.specs.Holdings.{account_of_core, gained, handed, nothing, spent, stamp_if_any, Account, ActCounts, AskCounts, CountRight, HasLost, TakesOnlyItsOwn, LosesOnlyUnheld}
+use Rattle.txc_world.specs.LostSnapshot.{IfDidLose, IfGone, IfPortLoses, IfReplyLost}
 use Rattle.txc_world.proofs.Losing.{gone_so, port_so}
 use Rattle.txc_world.proofs.Times.{times_append, times_off, times_one, times_there, times_without}
 
@@ -50,18 +50,18 @@ use Rattle.txc_world.proofs.Times.{times_append, times_off, times_one, times_the
 -- as many holds, and the same pins, with the same users
 pub fair_same : (old new : PortsValue) (before after : Account) → new.database.holds ≡ old.database.holds → new.cushion ≡ old.cushion
     → ((stamp : ℕ) → times stamp after.own ≤ times stamp before.own) → ((stamp : ℕ) → times stamp after.taken ≤ times stamp before.taken)
-    → IsFair old new before after
+    → TakesOnlyItsOwn old new before after
 fair_same old new before after holds cushion own taken = record {
   holds = λ t. rw (holds, cushion) (let less = own t in omega (arith, less));
   users = λ t. rw cushion (let less = taken t in omega (arith, less));
 }
 
-pub fair_itself : (p : PortsValue) (a : Account) → IsFair p p a a
+pub fair_itself : (p : PortsValue) (a : Account) → TakesOnlyItsOwn p p a a
 fair_itself p a = fair_same p p a a refl refl (λ t. omega arith) (λ t. omega arith)
 
 -- the database holds one stamp more, which is the actor's
 pub fair_hold : (old new : PortsValue) (taken : List ℕ) (stamp : ℕ) → new.database.holds ≡ old.database.holds ++ stamp ∷ [] → new.cushion ≡ old.cushion
-    → IsFair old new (record { taken = taken; own = [] }) (record { taken = taken; own = stamp ∷ [] })
+    → TakesOnlyItsOwn old new (record { taken = taken; own = [] }) (record { taken = taken; own = stamp ∷ [] })
 fair_hold old new taken stamp holds cushion = record {
   holds = λ t. rw (holds, cushion) (let all = times_append t old.database.holds (stamp ∷ []) in omega (arith, all));
   users = λ t. rw cushion (omega arith);
@@ -69,20 +69,20 @@ fair_hold old new taken stamp holds cushion = record {
 
 -- one hold of the actor's is taken away, or the database refuses, which lets it go
 pub fair_unpin : {A : Type 0} → (old new : PortsValue) (taken : List ℕ) (stamp : ℕ) (done : Result A DbError) → CountRight old → UnpinTransition stamp old new done
-    → IsFair old new (record { taken = taken; own = stamp ∷ [] }) (record { taken = taken; own = [] })
-fair_unpin old new taken stamp (Ok done) right leads = rw leads.0 (record {
-  holds = λ t. let less = times_without right.unpin t stamp old.database.holds leads.1 in omega (arith, less);
+    → TakesOnlyItsOwn old new (record { taken = taken; own = stamp ∷ [] }) (record { taken = taken; own = [] })
+fair_unpin old new taken stamp (Ok done) right transition = rw transition.0 (record {
+  holds = λ t. let less = times_without right.unpin t stamp old.database.holds transition.1 in omega (arith, less);
   users = λ t. omega arith;
 })
-fair_unpin old new taken stamp (Err e) right leads = rw leads.0 (record {
+fair_unpin old new taken stamp (Err e) right transition = rw transition.0 (record {
   holds = λ t. omega arith;
   users = λ t. omega arith;
 })
 
 -- pins are handed out, each with one user more
 pub fair_fresh : (old new : PortsValue) (now staleness at_least : ℕ) (pins : Pins) → CountRight old → FreshTransition {A = Unit {0}} now staleness at_least old new (Ok pins)
-    → IsFair old new nothing (handed pins.pins.items)
-fair_fresh old new now staleness at_least pins right leads = rw (leads.0, leads.1) (record {
+    → TakesOnlyItsOwn old new nothing (handed pins.pins.items)
+fair_fresh old new now staleness at_least pins right transition = rw (transition.0, transition.1) (record {
   holds = λ t. let one = right.fresh old.cushion now staleness at_least t right.cushion in let same = ap (times t) one.stamps in omega (arith, same);
   users = λ t. let one = right.fresh old.cushion now staleness at_least t right.cushion in let more = one.users in omega (arith, more);
 })
@@ -90,12 +90,12 @@ fair_fresh old new now staleness at_least pins right leads = rw (leads.0, leads.
 -- users are given back, or the pincushion refuses
 pub fair_give_back : {A : Type 0} → (old new : PortsValue) (stamps : List ℕ) (given : Result A UnknownPin) → GiveBackCountsUsers → GiveBackTransition stamps old new given
     → (taken left own rest : List ℕ) → ((t : ℕ) → times t left + times t stamps ≤ times t taken) → ((t : ℕ) → times t rest ≤ times t own)
-    → IsFair old new (record { taken = taken; own = own }) (record { taken = left; own = rest })
-fair_give_back old new stamps (Ok given) law leads taken left own rest less fewer_own = rw leads.0 (record {
-  holds = λ t. let one = law old.cushion stamps t leads.1 in let same = ap (times t) one.stamps in let o = fewer_own t in omega (arith, same, o);
-  users = λ t. let one = law old.cushion stamps t leads.1 in let fewer = one.users in let l = less t in omega (arith, fewer, l);
+    → TakesOnlyItsOwn old new (record { taken = taken; own = own }) (record { taken = left; own = rest })
+fair_give_back old new stamps (Ok given) law transition taken left own rest less fewer_own = rw transition.0 (record {
+  holds = λ t. let one = law old.cushion stamps t transition.1 in let same = ap (times t) one.stamps in let o = fewer_own t in omega (arith, same, o);
+  users = λ t. let one = law old.cushion stamps t transition.1 in let fewer = one.users in let l = less t in omega (arith, fewer, l);
 })
-fair_give_back old new stamps (Err unknown) law leads taken left own rest less fewer_own = rw leads.0 (record {
+fair_give_back old new stamps (Err unknown) law transition taken left own rest less fewer_own = rw transition.0 (record {
   holds = λ t. let o = fewer_own t in omega (arith, o);
   users = λ t. let l = less t in omega (arith, l);
 })
@@ -156,38 +156,38 @@ pin_holds old new now stamp is at =
 module _ (old new : PortsValue) where
   pub counts_pin : (now at_least : ℕ) (pinned : Result Pinned DbError) → PinTransition now at_least old new pinned → AskCounts (requests.Pin now at_least) old new (replies.Pin pinned)
   counts_pin now at_least (Ok pinned) h = record {
-    fair = fair_hold old new [] pinned.stamp (pin_holds old new now pinned.stamp (ap (λ (p : PortsValue). p.database) h.after) h.stamp) (ap (λ (p : PortsValue). p.cushion) h.after);
+    own_only = fair_hold old new [] pinned.stamp (pin_holds old new now pinned.stamp (ap (λ (p : PortsValue). p.database) h.after) h.stamp) (ap (λ (p : PortsValue). p.cushion) h.after);
     gone = tt;
   }
   counts_pin now at_least (Err e) h = record {
-    fair = fair_same old new nothing nothing (left_holds old.database new.database e h.0.left) (ap (λ (p : PortsValue). p.cushion) h.0.is) (λ t. omega arith) (λ t. omega arith);
+    own_only = fair_same old new nothing nothing (left_holds old.database new.database e h.0.left) (ap (λ (p : PortsValue). p.cushion) h.0.is) (λ t. omega arith) (λ t. omega arith);
     gone = gone_pin old at_least e h.1;
   }
 
   pub counts_add : (pinned : Pinned) (added : Result (Unit {0}) AddError) → CountRight old → AddTransition pinned old new added → AskCounts (requests.AddPin pinned) old new (replies.AddPin pinned added)
   counts_add pinned (Ok added) right h = rw h.0 (record {
-    fair = record {
+    own_only = record {
       holds = λ t. let one = right.add old.cushion pinned t right.cushion h.1 in let a = one.stamps in let b = times_one t pinned.stamp in omega (arith, a, b);
       users = λ t. let one = right.add old.cushion pinned t right.cushion h.1 in let a = one.users in let b = times_one t pinned.stamp in omega (arith, a, b);
     };
     gone = tt;
   })
-  counts_add pinned (Err e) right h = rw h.0 (record { fair = fair_itself old (spent (requests.AddPin pinned)); gone = tt })
+  counts_add pinned (Err e) right h = rw h.0 (record { own_only = fair_itself old (spent (requests.AddPin pinned)); gone = tt })
 
   pub counts_unpin : (stamp : ℕ) (unpinned : Result (Unit {0}) DbError) → CountRight old → UnpinTransition stamp old new unpinned → AskCounts (requests.Unpin stamp) old new (replies.Unpin unpinned)
-  counts_unpin stamp (Ok done) right h = record { fair = fair_unpin {A = Unit {0}} old new [] stamp (Ok done) right h; gone = tt }
-  counts_unpin stamp (Err e) right h = record { fair = fair_unpin {A = Unit {0}} old new [] stamp (Err e) right h; gone = gone_unpin old stamp e h.1 }
+  counts_unpin stamp (Ok done) right h = record { own_only = fair_unpin {A = Unit {0}} old new [] stamp (Ok done) right h; gone = tt }
+  counts_unpin stamp (Err e) right h = record { own_only = fair_unpin {A = Unit {0}} old new [] stamp (Err e) right h; gone = gone_unpin old stamp e h.1 }
 
   -- a node led on leaves holds and users
-  pub fair_led : (at : ℕ) (leads : NodeValue → NodeValue → Type 0) → HasLedNode at leads old new → IsFair old new nothing nothing
-  fair_led at leads led =
+  pub fair_led : (at : ℕ) (transition : NodeValue → NodeValue → Type 0) → HasLedNode at transition old new → TakesOnlyItsOwn old new nothing nothing
+  fair_led at transition led =
       fair_same old new nothing nothing (ap (λ (p : PortsValue). p.database.holds) led.is) (ap (λ (p : PortsValue). p.cushion) led.is) (λ t. omega arith) (λ t. omega arith)
 
   -- a query changes nothing
   pub counts_query : (query : Query) (stamp : ℕ) (found : Result (Answered Found) DbError) → CountRight old → new ≡ old → FindTransition query stamp old found
       → AskCounts (requests.Query query stamp) old new (replies.Query found)
-  counts_query query stamp (Ok found) right same h = record { fair = rw same (fair_itself old nothing); gone = tt }
-  counts_query query stamp (Err e) right same h = record { fair = rw same (fair_itself old nothing); gone = gone_query old right query stamp e h }
+  counts_query query stamp (Ok found) right same h = record { own_only = rw same (fair_itself old nothing); gone = tt }
+  counts_query query stamp (Err e) right same h = record { own_only = rw same (fair_itself old nothing); gone = gone_query old right query stamp e h }
 
 -- ---- a transaction goes on
 
@@ -205,13 +205,13 @@ brings : (t : ℕ) (taken : List ℕ) (reply : PortReply) → times t (taken_aft
 brings t taken (replies.AddPin pinned (Ok added)) = times_append t taken (pinned.stamp ∷ [])
 brings t taken reply = omega arith
 
-pub fair_gone_on : (old new : PortsValue) (c c' : CoreValue) (request : PortRequest) (reply : PortReply) → CoreAsks c request → IsFair old new (spent request) (gained reply)
-    → c'.taken ≡ taken_after c.taken reply → left_pin c'.pinning ≡ left_after reply → IsFair old new (account_of_core c) (account_of_core c')
-fair_gone_on old new c c' request reply asking fair taken left =
-    let fair' : IsFair old new (record { taken = []; own = stamp_if_any (left_pin c.pinning) }) (gained reply) = subst (λ (a : Account). IsFair old new a (gained reply)) (spends c request asking) fair in
+pub fair_gone_on : (old new : PortsValue) (c c' : CoreValue) (request : PortRequest) (reply : PortReply) → CoreAsks c request → TakesOnlyItsOwn old new (spent request) (gained reply)
+    → c'.taken ≡ taken_after c.taken reply → left_pin c'.pinning ≡ left_after reply → TakesOnlyItsOwn old new (account_of_core c) (account_of_core c')
+fair_gone_on old new c c' request reply asking own_only taken left =
+    let own_only' : TakesOnlyItsOwn old new (record { taken = []; own = stamp_if_any (left_pin c.pinning) }) (gained reply) = subst (λ (a : Account). TakesOnlyItsOwn old new a (gained reply)) (spends c request asking) own_only in
     rw (taken, left) (record {
-      holds = fair'.holds;
-      users = λ t. let all = brings t c.taken reply in let less = fair'.users t in omega (arith, all, less);
+      holds = own_only'.holds;
+      users = λ t. let all = brings t c.taken reply in let less = own_only'.users t in omega (arith, all, less);
     })
 
 -- where the next query runs at a stamp, that is a member's, which was taken
@@ -241,7 +241,7 @@ loss_port next objects p c (requests.Query query stamp) reply fits asking gone =
 loss_port next objects p c request reply fits asking gone = port_so ⊥ (HasLost p (account_of_core c)) (λ no. absurd no) reply gone
 
 -- a hit that holds no member loses nothing either
-pub loss_counted : (P : Type 0) (members : List Pin) (did : Did) → IfDidLose did P → IfDidLose (counted members did) P
+pub loss_counted : (P : Type 0) (members : List Pin) (did : PortOutcome) → IfDidLose did P → IfDidLose (counted members did) P
 loss_counted P members (dids.Hit reach) lost = go (holds_any reach members)
   where
     go : (b : Bool) → IfDidLose (if b then dids.Hit reach else dids.Miss) P
@@ -253,21 +253,21 @@ loss_counted P members did lost = lost
 
 -- all that was taken is given back; a hold is left, if one was there
 pub fair_ended : {A : Type 0} → (old new : PortsValue) (c : CoreValue) (stamps : List ℕ) (given : Result A UnknownPin) → GiveBackCountsUsers → GiveBackTransition stamps old new given
-    → stamps ≡ c.taken → (rest : List ℕ) → ((t : ℕ) → times t rest ≤ times t (stamp_if_any (left_pin c.pinning))) → IsFair old new (account_of_core c) (record { taken = []; own = rest })
-fair_ended old new c stamps given law leads same rest fewer =
-    fair_give_back old new stamps given law leads c.taken [] (stamp_if_any (left_pin c.pinning)) rest (λ t. rw same (omega arith)) fewer
+    → stamps ≡ c.taken → (rest : List ℕ) → ((t : ℕ) → times t rest ≤ times t (stamp_if_any (left_pin c.pinning))) → TakesOnlyItsOwn old new (account_of_core c) (record { taken = []; own = rest })
+fair_ended old new c stamps given law transition same rest fewer =
+    fair_give_back old new stamps given law transition c.taken [] (stamp_if_any (left_pin c.pinning)) rest (λ t. rw same (omega arith)) fewer
 
 pub loss_unpin : (p : PortsValue) (a : Account) (stamp : ℕ) (e : DbError) → IsUnpinRefused p.database stamp e → IfDidLose (dids.Refused e) (HasLost p a)
 loss_unpin p a stamp e h = gone_so ⊥ (HasLost p a) (λ no. absurd no) e (gone_unpin p stamp e h)
 
 -- a step that leaves the ports and the account
 pub counts_itself : (p : PortsValue) (a : Account) (reply : Reply) → IfReplyLost reply (HasLost p a) → ActCounts p p a a reply
-counts_itself p a reply loss = record { fair = fair_itself p a; loss = loss }
+counts_itself p a reply loss = record { own_only = fair_itself p a; loss = loss }
 
 -- what was taken stays, and nothing of its own is left
 pub counts_unowned : (p : PortsValue) (c c' : CoreValue) (reply : Reply) → c'.taken ≡ c.taken → left_pin c'.pinning ≡ None → IfReplyLost reply (HasLost p (account_of_core c))
     → ActCounts p p (account_of_core c) (account_of_core c') reply
 counts_unowned p c c' reply taken left loss = record {
-  fair = fair_same p p (account_of_core c) (account_of_core c') refl refl (λ t. rw left (omega arith)) (λ t. rw taken (omega arith));
+  own_only = fair_same p p (account_of_core c) (account_of_core c') refl refl (λ t. rw left (omega arith)) (λ t. rw taken (omega arith));
   loss = loss;
 }

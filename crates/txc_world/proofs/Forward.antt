@@ -7,15 +7,15 @@ use Rattle.std.proofs.lemmas.Option.{slice_get_within}
 use Rattle.txc_db.specs.History.{History}
 use Rattle.txc_cushion.specs.declared.pin.Pin.{Pin}
 use Rattle.txc_app.specs.Eval.{Next}
-use Rattle.txc_world.specs.declared.step.Act.{Act}
-use Rattle.txc_world.specs.declared.step.Act.TheVariants.{BeginRo, BeginRw, Start, Request, Ask, Write, Commit, Abort}
+use Rattle.txc_world.specs.declared.step.ActorStep.{ActorStep}
+use Rattle.txc_world.specs.declared.step.ActorStep.TheVariants.{BeginRo, BeginRw, Start, Request, Ask, Write, Commit, Abort}
 use Rattle.txc_world.specs.declared.step.Step.{Step}
 use Rattle.txc_world.specs.declared.step.Step.TheVariants.{Actor, BeginIn, Keeper}
-use Rattle.txc_ports.specs.declared.error.TxnError.{TxnError}
+use Rattle.txc_txn_ports.specs.declared.error.TxnError.{TxnError}
 use Rattle.txc_world.specs.declared.reply.Reply.{Reply}
 use Rattle.txc_world.specs.declared.reply.Reply.TheVariants as replies
 use Rattle.txc_world.specs.Observation.{Reading, ObservedActor, idle, reading, writing, leaving, Observation, act_at, after, after_end, begin_at, floor_at, floor_by, observed_after, AreExplained, IsCommitOf, IsExplainedIn, IsReceiptOfActor, ReplyExplains}
-use Rattle.txc_world.specs.Sessions.{replied, BeganNone, HaveBegunNone, HaveToldAtMost, NoActorGoesBack, ToldAtMost}
+use Rattle.txc_world.specs.Sessions.{replied, BeganNone, HaveBegunNone, HaveToldAtMost, ActorSessionsAreMonotonic, ToldAtMost}
 use Rattle.txc_world.proofs.Stepping.{set_length}
 
 -- ---- floors
@@ -43,7 +43,7 @@ reply_raises reply floor = omega arith
 abbrev pub HasSessions : Observation → Type 0
 HasSessions told = length told.floors ≡ length told.actors
 
-module _ (told : Observation) (at : ℕ) (act : Act) (reply : Reply) where
+module _ (told : Observation) (at : ℕ) (act : ActorStep) (reply : Reply) where
   act_has : (observed : Option ObservedActor) → HasSessions told → HasSessions (act_at at act reply told observed)
   act_has None h = h
   act_has (Some observed) h =
@@ -148,7 +148,7 @@ module _ (P : ℕ → Type 0) where
   end_reads (Some (Ok value)) r h = h
   end_reads (Some (Err error)) r h = h
 
-  act_reads : (act : Act) (reply : Reply) (observed : ObservedActor) → NotBegun reply → ReadsFrom P observed → ReadsFrom P (observed_after act reply observed)
+  act_reads : (act : ActorStep) (reply : Reply) (observed : ObservedActor) → NotBegun reply → ReadsFrom P observed → ReadsFrom P (observed_after act reply observed)
   act_reads (BeginRo bounds) replies.Begun observed new h = absurd new
   act_reads BeginRw (replies.Based base) observed new h = tt
   act_reads (Start key) replies.Started (reading r) new h = h
@@ -182,14 +182,14 @@ module _ (P : ℕ → Type 0) (number : ℕ) where
   abbrev pub Reads : Observation → Type 0
   Reads told = (observed : ObservedActor) → slice_get told.actors number ≡ Some observed → ReadsFrom P observed
 
-  place_reads : (told : Observation) (at : ℕ) (act : Act) (reply : Reply) → (at ≡ number → NotBegun reply) → Reads told
+  place_reads : (told : Observation) (at : ℕ) (act : ActorStep) (reply : Reply) → (at ≡ number → NotBegun reply) → Reads told
       → (observed : Option ObservedActor) → slice_get told.actors at ≡ observed → Reads (act_at at act reply told observed)
   place_reads told at act reply new h None is = h
   place_reads told at act reply new h (Some was) is =
       set_reads (ReadsFrom P) told.actors at number (observed_after act reply was)
       (λ same. act_reads P act reply was (new same) (h was (subst (λ (n : ℕ). slice_get told.actors n ≡ Some was) same is))) h
 
-  not_begun : (at : ℕ) (act : Act) (reply : Reply) → BeganNone number (Actor at act) reply → at ≡ number → NotBegun reply
+  not_begun : (at : ℕ) (act : ActorStep) (reply : Reply) → BeganNone number (Actor at act) reply → at ≡ number → NotBegun reply
   not_begun at act replies.Begun none same = absurd (none same)
   not_begun at act reply none same = tt
 
@@ -281,9 +281,9 @@ between_low next L told (x ∷ xs) number pin none h receipt =
       between_low next L now xs number pin none.1 h.1 receipt,
     )
 
-pub nobody_goes_back : (next : Next) (told : Observation) (steps : List Step) (answers : List Reply) → HasSessions told → AreExplained next told steps answers
-    → NoActorGoesBack steps answers
-nobody_goes_back next told steps answers has explained number now staleness pin before between more apart none =
+pub sessions_are_monotonic : (next : Next) (told : Observation) (steps : List Step) (answers : List Reply) → HasSessions told → AreExplained next told steps answers
+    → ActorSessionsAreMonotonic steps answers
+sessions_are_monotonic next told steps answers has explained number now staleness pin before between more apart none =
     let receipt : Step × Reply = (Actor number Commit, replies.Receipt (Some pin)) in
     let rest : List (Step × Reply) = (BeginIn number now staleness, replies.Begun) ∷ (between ++ (receipt ∷ more)) in
     let all : AreExplainedThrough next told (before ++ rest) = subst (AreExplainedThrough next told) apart (explained_through next told steps answers explained) in
@@ -303,8 +303,8 @@ nobody_goes_back next told steps answers has explained number now staleness pin 
 
 -- at the end of the loop over the steps
 pub loop_back : (next : Next) (start : Observation) (steps : List Step) (i : ℕ) (answers : List Reply) → length steps ≤ i → i ≤ length steps
-    → HasSessions start → AreExplained next start (take i steps) answers → NoActorGoesBack steps answers
+    → HasSessions start → AreExplained next start (take i steps) answers → ActorSessionsAreMonotonic steps answers
 loop_back next start steps i answers past within has explained =
     let at : i ≡ length steps = omega (arith, past, within) in
     let all : take i steps ≡ steps = ap (λ n. take n steps) at ∙ take-length steps in
-    nobody_goes_back next start steps answers has (subst (λ (ss : List Step). AreExplained next start ss answers) all explained)
+    sessions_are_monotonic next start steps answers has (subst (λ (ss : List Step). AreExplained next start ss answers) all explained)

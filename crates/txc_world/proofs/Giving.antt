@@ -11,8 +11,8 @@ use Rattle.txc_cushion.specs.Cushion.{after_give_back, handed_out}
 use Rattle.txc_cushion.specs.Laws.{GiveBackCountsUsers}
 use Rattle.txc_cushion.specs.Refusals.{HaveUsers, IsFirstUnused}
 use Rattle.txc_world.specs.Ports.{PortsValue}
-use Rattle.txc_world.specs.Asks.{FreshTransition}
-use Rattle.txc_world.specs.Keeping.{GiveBackTransition}
+use Rattle.txc_world.specs.PortRequests.{FreshTransition}
+use Rattle.txc_world.specs.KeeperAtPorts.{GiveBackTransition}
 use Rattle.txc_world.specs.Holdings.{CountRight, GivesBack, KeepsPins}
 use Rattle.txc_world.proofs.SameEntries.{pins_back, pins_handed, same_entries}
 use Rattle.txc_world.proofs.Times.{times_cons, times_on, times_one}
@@ -33,13 +33,13 @@ not_unused p s stamp first some = go first.place first.there first.none_left
 
 given_one : {A : Type 0} → (old new : PortsValue) (s : ℕ) (given : Result A UnknownPin) → GiveBackCountsUsers → GiveBackTransition (s ∷ []) old new given
     → 0 < users_of s old.cushion.entries → (t : ℕ) → users_of t new.cushion.entries + times t (s ∷ []) ≡ users_of t old.cushion.entries
-given_one old new s (Ok given) law leads some t = rw leads.0 (law old.cushion (s ∷ []) t leads.1).users
-given_one old new s (Err unknown) law leads some t = absurd (not_unused old s unknown.stamp leads.1 some)
+given_one old new s (Ok given) law transition some t = rw transition.0 (law old.cushion (s ∷ []) t transition.1).users
+given_one old new s (Err unknown) law transition some t = absurd (not_unused old s unknown.stamp transition.1 some)
 
 pub gives_one : {A : Type 0} → (old between new : PortsValue) (pins : List Pin) (i : ℕ) (pin : Pin) (given : Result A UnknownPin) → GiveBackCountsUsers
     → GiveBackTransition (pin.stamp ∷ []) between new given → i < length pins → pin ≡ get_or pins i pin → GivesBackSome old between pins (drop i pins)
     → GivesBackSome old new pins (drop (i + 1) pins)
-gives_one old between new pins i pin given law leads within is before = λ have t.
+gives_one old between new pins i pin given law transition within is before = λ have t.
     let s = pin.stamp in
     let rest = map (λ (p : Pin). p.stamp) (drop (i + 1) pins) in
     let first : drop i pins ≡ pin ∷ drop (i + 1) pins =
@@ -50,7 +50,7 @@ gives_one old between new pins i pin given law leads within is before = λ have 
     let had = have s in
     let here = left s in
     let some : 0 < users_of s between.cushion.entries = omega (arith, there, now, had, here) in
-    let one = given_one between new s given law leads some t in
+    let one = given_one between new s given law transition some t in
     let was = before have t in
     let list = left t in
     let all = times_cons t s rest in
@@ -66,18 +66,18 @@ gives_all old new pins i past all = λ have t.
 -- no pin comes or goes
 pub pins_then : {A : Type 0} → (old between new : PortsValue) (stamp : ℕ) (given : Result A UnknownPin) → KeepsPins old between
     → GiveBackTransition (stamp ∷ []) between new given → KeepsPins old new
-pins_then old between new stamp (Ok given) keeps leads = rw leads.0 (record {
+pins_then old between new stamp (Ok given) keeps transition = rw transition.0 (record {
   pins = pins_back (stamp ∷ []) between.cushion.entries ∙ keeps.pins;
   same = ap (λ (p : PortsValue). record p { cushion = after_give_back p.cushion (stamp ∷ []) }) keeps.same;
 })
-pins_then old between new stamp (Err unknown) keeps leads = rw leads.0 keeps
+pins_then old between new stamp (Err unknown) keeps transition = rw transition.0 keeps
 
 -- pins that were handed out and are given back leave the users as they were
 users_again : (old between new : PortsValue) (now staleness at_least : ℕ) (pins : Pins) → CountRight old → FreshTransition {A = Unit {0}} now staleness at_least old between (Ok pins)
     → GivesBack between new pins.pins.items → (t : ℕ) → users_of t new.cushion.entries ≡ users_of t old.cushion.entries
-users_again old between new now staleness at_least pins right leads gives = λ t.
+users_again old between new now staleness at_least pins right transition gives = λ t.
     let more : (x : ℕ) → users_of x between.cushion.entries ≡ users_of x old.cushion.entries + times x (map (λ (p : Pin). p.stamp) pins.pins.items) =
-    λ x. rw (leads.0, leads.1) (right.fresh old.cushion now staleness at_least x right.cushion).users in
+    λ x. rw (transition.0, transition.1) (right.fresh old.cushion now staleness at_least x right.cushion).users in
     let have : HaveUsers between.cushion.entries (map (λ (p : Pin). p.stamp) pins.pins.items) = λ x. let m = more x in omega (arith, m) in
     let m = more t in
     let g = gives have t in
@@ -86,12 +86,12 @@ users_again old between new now staleness at_least pins right leads gives = λ t
 -- and all else too
 pub all_again : (old between new : PortsValue) (now staleness at_least : ℕ) (pins : Pins) → CountRight old → FreshTransition {A = Unit {0}} now staleness at_least old between (Ok pins)
     → GivesBack between new pins.pins.items → KeepsPins between new → new ≡ old
-all_again old between new now staleness at_least pins right leads gives keeps =
+all_again old between new now staleness at_least pins right transition gives keeps =
     let handed : pins_of between.cushion.entries ≡ pins_of old.cushion.entries =
-    rw leads.0 (pins_handed (handed_out old.cushion now staleness at_least) old.cushion.entries) in
+    rw transition.0 (pins_handed (handed_out old.cushion now staleness at_least) old.cushion.entries) in
     let entries : old.cushion.entries ≡ new.cushion.entries =
     same_entries old.cushion.entries new.cushion.entries (λ t. (right.once old.cushion t right.cushion).0) (sym (keeps.pins ∙ handed))
-    (λ t. sym (users_again old between new now staleness at_least pins right leads gives t)) in
+    (λ t. sym (users_again old between new now staleness at_least pins right transition gives t)) in
     keeps.same
     ∙ ap (λ (es : List PinEntry). record between { cushion = record between.cushion { entries = es } }) (sym entries)
-    ∙ ap (λ (p : PortsValue). record p { cushion = record p.cushion { entries = old.cushion.entries } }) leads.0
+    ∙ ap (λ (p : PortsValue). record p { cushion = record p.cushion { entries = old.cushion.entries } }) transition.0

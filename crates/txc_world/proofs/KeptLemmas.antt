@@ -11,16 +11,16 @@ use Rattle.txc_db.specs.declared.pinned.Pinned.{Pinned}
 use Rattle.txc_db.specs.Facts.{EventValue}
 use Rattle.txc_db.specs.History.{History, commit_event, pin_event}
 use Rattle.txc_db.specs.DatabaseValue.{DatabaseValue, after_commit, after_event_of, is_held, newest, newest_net, newest_state, where_some}
-use Rattle.txc_world.specs.declared.step.Keep.{Keep}
-use Rattle.txc_world.specs.declared.step.Keep.TheVariants as keeps
+use Rattle.txc_world.specs.declared.step.KeeperStep.{KeeperStep}
+use Rattle.txc_world.specs.declared.step.KeeperStep.TheVariants as keeps
 use Rattle.txc_world.specs.declared.reply.Reply.{Reply}
 use Rattle.txc_world.specs.declared.reply.Reply.TheVariants as replies
 use Rattle.txc_world.specs.declared.reply.Reply.TheVariants.{Refused}
 use Rattle.txc_world.specs.declared.reply.Refusal.TheVariants as refusals
 use Rattle.txc_world.specs.Ports.{PortsValue, whole_of, HasRefused, HasLedNode}
 use Rattle.txc_world.specs.NodeSteps.{AdvanceTransition, SweepTransition}
-use Rattle.txc_world.specs.Keeping.{stamps_of_pins, CommitTransition, HasPinnedSpare, WriteTransition}
-use Rattle.txc_world.specs.Kept.{KeepTransition}
+use Rattle.txc_world.specs.KeeperAtPorts.{stamps_of_pins, CommitTransition, HasPinnedSpare, WriteTransition}
+use Rattle.txc_world.specs.KeeperStep.{KeepTransition}
 use Rattle.txc_world.specs.Observation.{commit_in, keep_in, spare_after, IsDueOr, IsKeepDue, IsNoReceipt}
 use Rattle.txc_shared.specs.Nodes.{NodeValue}
 use Rattle.txc_shared.specs.declared.advanced.Advanced.{Advanced}
@@ -44,15 +44,15 @@ committed d (c ∷ cs) e stamp is = rw (lt_more (length d.history) stamp (is ∙
 -- the changes of a commit stand in the history, as its stamp tells
 pub commit_told : (old new : PortsValue) (base : ℕ) (read : List Tag) (changes : List Change) (stamp : ℕ) → CommitTransition base read changes old new (Ok stamp)
     → new.database.history ≡ commit_in changes stamp old.database.history
-commit_told old new base read changes stamp leads =
+commit_told old new base read changes stamp transition =
     let d = old.database in
-    let same : new.database ≡ after_commit d changes = ap (λ (p : PortsValue). p.database) leads.0 in
+    let same : new.database ≡ after_commit d changes = ap (λ (p : PortsValue). p.database) transition.0 in
     ap (λ (e : DatabaseValue). e.history) same
-    ∙ committed d (newest_net d changes) (commit_event (newest_state d) changes) stamp (leads.1 ∙ ap newest same)
+    ∙ committed d (newest_net d changes) (commit_event (newest_state d) changes) stamp (transition.1 ∙ ap newest same)
 
 pub written : (old new : PortsValue) (change : Change) (stamp : ℕ) → WriteTransition change old new (Ok stamp)
     → new.database.history ≡ keep_in (keeps.Write change) (replies.At stamp) old.database.history
-written old new change stamp leads = commit_told old new (newest old.database) [] (change ∷ []) stamp leads
+written old new change stamp transition = commit_told old new (newest old.database) [] (change ∷ []) stamp transition
 
 -- ---- what stays
 
@@ -128,66 +128,66 @@ module _ (old new : PortsValue) where
   tells_so : (p : PortsValue) → new ≡ p → TellsOf p.database.history (stamps_of_pins p.spare)
   tells_so p is = (ap (λ (q : PortsValue). q.database.history) is, ap (λ (q : PortsValue). stamps_of_pins q.spare) is)
 
-  pub kept_told : (keep : Keep) (reply : Reply) → KeepTransition keep old new reply
+  pub kept_told : (keep : KeeperStep) (reply : Reply) → KeepTransition keep old new reply
       → TellsOf (keep_in keep reply old.database.history) (spare_after keep reply (stamps_of_pins old.spare))
-  kept_told (keeps.Write change) (replies.At stamp) leads = (written old new change stamp leads, ap (λ (p : PortsValue). stamps_of_pins p.spare) leads.0)
-  kept_told (keeps.Write change) (Refused (refusals.Database e)) leads = (refused_history old new e leads.0, refused_spare old new e leads.0)
-  kept_told (keeps.Pin now) (replies.At stamp) leads = (pinned_spare_history old new now stamp leads, pinned_spare_stamps old new now stamp leads)
-  kept_told (keeps.Pin now) (Refused (refusals.Database e)) leads = (refused_history old new e leads.0, refused_spare old new e leads.0)
-  kept_told (keeps.Add stamp) replies.Added leads = (ap (λ (p : PortsValue). p.database.history) leads.added.0, leads.spare)
-  kept_told (keeps.Add stamp) (Refused (refusals.Pincushion e)) leads = (ap (λ (p : PortsValue). p.database.history) leads.added.0, leads.spare)
-  kept_told (keeps.Add stamp) (Refused refusals.NoRequest) leads = tells_so _ leads.0
-  kept_told (keeps.GiveBack stamp) replies.GivenBack leads = tells_so _ leads.0
-  kept_told (keeps.GiveBack stamp) (Refused (refusals.GiveBack unknown)) leads = tells_so _ leads.0
-  kept_told (keeps.Retire now age) (replies.Retired stamps) leads = tells_so _ leads.0
-  kept_told (keeps.Retire now age) (Refused refusals.Memory) leads = tells_so _ leads
-  kept_told (keeps.Unpin stamp) replies.Unpinned leads = tells_so _ leads.0
-  kept_told (keeps.Unpin stamp) (Refused (refusals.Database e)) leads = tells_so _ leads.0
-  kept_told keeps.Vacuum (replies.Vacuumed horizon) leads = tells_so _ leads.0
-  kept_told keeps.Vacuum (Refused (refusals.Database e)) leads = tells_so _ leads.0
-  kept_told (keeps.Query stamp query) (replies.Rows rows) leads = tells_so _ leads.0
-  kept_told (keeps.Query stamp query) (Refused (refusals.Database e)) leads = tells_so _ leads.0
-  kept_told (keeps.Advance node) (replies.Advanced advanced) leads = tells_so _ leads.is
-  kept_told (keeps.Advance node) (Refused (refusals.Node e)) leads = tells_so _ leads.is
-  kept_told (keeps.Advance node) (Refused refusals.NoNode) leads = tells_so _ leads.0
-  kept_told (keeps.Sweep node horizon) (replies.Swept count) leads = tells_so _ leads.is
-  kept_told (keeps.Sweep node horizon) (Refused (refusals.Node e)) leads = tells_so _ leads.is
-  kept_told (keeps.Sweep node horizon) (Refused refusals.NoNode) leads = tells_so _ leads.0
-  kept_told keep reply leads = absurd leads
+  kept_told (keeps.Write change) (replies.At stamp) transition = (written old new change stamp transition, ap (λ (p : PortsValue). stamps_of_pins p.spare) transition.0)
+  kept_told (keeps.Write change) (Refused (refusals.Database e)) transition = (refused_history old new e transition.0, refused_spare old new e transition.0)
+  kept_told (keeps.Pin now) (replies.At stamp) transition = (pinned_spare_history old new now stamp transition, pinned_spare_stamps old new now stamp transition)
+  kept_told (keeps.Pin now) (Refused (refusals.Database e)) transition = (refused_history old new e transition.0, refused_spare old new e transition.0)
+  kept_told (keeps.Add stamp) replies.Added transition = (ap (λ (p : PortsValue). p.database.history) transition.added.0, transition.spare)
+  kept_told (keeps.Add stamp) (Refused (refusals.Pincushion e)) transition = (ap (λ (p : PortsValue). p.database.history) transition.added.0, transition.spare)
+  kept_told (keeps.Add stamp) (Refused refusals.NoRequest) transition = tells_so _ transition.0
+  kept_told (keeps.GiveBack stamp) replies.GivenBack transition = tells_so _ transition.0
+  kept_told (keeps.GiveBack stamp) (Refused (refusals.GiveBack unknown)) transition = tells_so _ transition.0
+  kept_told (keeps.Retire now age) (replies.Retired stamps) transition = tells_so _ transition.0
+  kept_told (keeps.Retire now age) (Refused refusals.Memory) transition = tells_so _ transition
+  kept_told (keeps.Unpin stamp) replies.Unpinned transition = tells_so _ transition.0
+  kept_told (keeps.Unpin stamp) (Refused (refusals.Database e)) transition = tells_so _ transition.0
+  kept_told keeps.Vacuum (replies.Vacuumed horizon) transition = tells_so _ transition.0
+  kept_told keeps.Vacuum (Refused (refusals.Database e)) transition = tells_so _ transition.0
+  kept_told (keeps.Query stamp query) (replies.Rows rows) transition = tells_so _ transition.0
+  kept_told (keeps.Query stamp query) (Refused (refusals.Database e)) transition = tells_so _ transition.0
+  kept_told (keeps.Advance node) (replies.Advanced advanced) transition = tells_so _ transition.is
+  kept_told (keeps.Advance node) (Refused (refusals.Node e)) transition = tells_so _ transition.is
+  kept_told (keeps.Advance node) (Refused refusals.NoNode) transition = tells_so _ transition.0
+  kept_told (keeps.Sweep node horizon) (replies.Swept count) transition = tells_so _ transition.is
+  kept_told (keeps.Sweep node horizon) (Refused (refusals.Node e)) transition = tells_so _ transition.is
+  kept_told (keeps.Sweep node horizon) (Refused refusals.NoNode) transition = tells_so _ transition.0
+  kept_told keep reply transition = absurd transition
 
   -- a node that was led is there
-  led_there : (at : ℕ) (leads : NodeValue → NodeValue → Type 0) → HasLedNode at leads old new → at < length old.nodes
-  led_there at leads led = slice_get_within old.nodes at led.before led.there
+  led_there : (at : ℕ) (transition : NodeValue → NodeValue → Type 0) → HasLedNode at transition old new → at < length old.nodes
+  led_there at transition led = slice_get_within old.nodes at led.before led.there
 
-  pub kept_due : (keep : Keep) (reply : Reply) → KeepTransition keep old new reply → IsKeepDue (length old.nodes) (stamps_of_pins old.spare) keep reply
-  kept_due (keeps.Write change) (replies.At stamp) leads = tt
-  kept_due (keeps.Write change) (Refused (refusals.Database e)) leads = tt
-  kept_due (keeps.Pin now) (replies.At stamp) leads = tt
-  kept_due (keeps.Pin now) (Refused (refusals.Database e)) leads = tt
-  kept_due (keeps.Add stamp) replies.Added leads = due_held (length old.nodes) stamp (stamps_of_pins old.spare) replies.Added _ leads.held tt
-  kept_due (keeps.Add stamp) (Refused (refusals.Pincushion e)) leads =
-      due_held (length old.nodes) stamp (stamps_of_pins old.spare) (Refused (refusals.Pincushion e)) _ leads.held tt
-  kept_due (keeps.Add stamp) (Refused refusals.NoRequest) leads = due_not_held stamp (stamps_of_pins old.spare) _ leads.1
-  kept_due (keeps.GiveBack stamp) replies.GivenBack leads = tt
-  kept_due (keeps.GiveBack stamp) (Refused (refusals.GiveBack unknown)) leads = tt
-  kept_due (keeps.Retire now age) (replies.Retired stamps) leads = tt
-  kept_due (keeps.Retire now age) (Refused refusals.Memory) leads = tt
-  kept_due (keeps.Unpin stamp) replies.Unpinned leads = tt
-  kept_due (keeps.Unpin stamp) (Refused (refusals.Database e)) leads = tt
-  kept_due keeps.Vacuum (replies.Vacuumed horizon) leads = tt
-  kept_due keeps.Vacuum (Refused (refusals.Database e)) leads = tt
-  kept_due (keeps.Query stamp query) (replies.Rows rows) leads = tt
-  kept_due (keeps.Query stamp query) (Refused (refusals.Database e)) leads = tt
-  kept_due (keeps.Advance node) (replies.Advanced advanced) leads = due_node node (length old.nodes) _ _ (led_there node _ leads) tt
-  kept_due (keeps.Advance node) (Refused (refusals.Node e)) leads = due_node node (length old.nodes) _ _ (led_there node _ leads) tt
-  kept_due (keeps.Advance node) (Refused refusals.NoNode) leads = due_no_node node (length old.nodes) _ leads.1
-  kept_due (keeps.Sweep node horizon) (replies.Swept count) leads = due_node node (length old.nodes) _ _ (led_there node _ leads) tt
-  kept_due (keeps.Sweep node horizon) (Refused (refusals.Node e)) leads = due_node node (length old.nodes) _ _ (led_there node _ leads) tt
-  kept_due (keeps.Sweep node horizon) (Refused refusals.NoNode) leads = due_no_node node (length old.nodes) _ leads.1
-  kept_due keep reply leads = absurd leads
+  pub kept_due : (keep : KeeperStep) (reply : Reply) → KeepTransition keep old new reply → IsKeepDue (length old.nodes) (stamps_of_pins old.spare) keep reply
+  kept_due (keeps.Write change) (replies.At stamp) transition = tt
+  kept_due (keeps.Write change) (Refused (refusals.Database e)) transition = tt
+  kept_due (keeps.Pin now) (replies.At stamp) transition = tt
+  kept_due (keeps.Pin now) (Refused (refusals.Database e)) transition = tt
+  kept_due (keeps.Add stamp) replies.Added transition = due_held (length old.nodes) stamp (stamps_of_pins old.spare) replies.Added _ transition.held tt
+  kept_due (keeps.Add stamp) (Refused (refusals.Pincushion e)) transition =
+      due_held (length old.nodes) stamp (stamps_of_pins old.spare) (Refused (refusals.Pincushion e)) _ transition.held tt
+  kept_due (keeps.Add stamp) (Refused refusals.NoRequest) transition = due_not_held stamp (stamps_of_pins old.spare) _ transition.1
+  kept_due (keeps.GiveBack stamp) replies.GivenBack transition = tt
+  kept_due (keeps.GiveBack stamp) (Refused (refusals.GiveBack unknown)) transition = tt
+  kept_due (keeps.Retire now age) (replies.Retired stamps) transition = tt
+  kept_due (keeps.Retire now age) (Refused refusals.Memory) transition = tt
+  kept_due (keeps.Unpin stamp) replies.Unpinned transition = tt
+  kept_due (keeps.Unpin stamp) (Refused (refusals.Database e)) transition = tt
+  kept_due keeps.Vacuum (replies.Vacuumed horizon) transition = tt
+  kept_due keeps.Vacuum (Refused (refusals.Database e)) transition = tt
+  kept_due (keeps.Query stamp query) (replies.Rows rows) transition = tt
+  kept_due (keeps.Query stamp query) (Refused (refusals.Database e)) transition = tt
+  kept_due (keeps.Advance node) (replies.Advanced advanced) transition = due_node node (length old.nodes) _ _ (led_there node _ transition) tt
+  kept_due (keeps.Advance node) (Refused (refusals.Node e)) transition = due_node node (length old.nodes) _ _ (led_there node _ transition) tt
+  kept_due (keeps.Advance node) (Refused refusals.NoNode) transition = due_no_node node (length old.nodes) _ transition.1
+  kept_due (keeps.Sweep node horizon) (replies.Swept count) transition = due_node node (length old.nodes) _ _ (led_there node _ transition) tt
+  kept_due (keeps.Sweep node horizon) (Refused (refusals.Node e)) transition = due_node node (length old.nodes) _ _ (led_there node _ transition) tt
+  kept_due (keeps.Sweep node horizon) (Refused refusals.NoNode) transition = due_no_node node (length old.nodes) _ transition.1
+  kept_due keep reply transition = absurd transition
 
   -- no step is replied with a receipt
-  pub kept_no_receipt : (keep : Keep) (reply : Reply) → KeepTransition keep old new reply → IsNoReceipt reply
-  kept_no_receipt (keeps.Write change) (replies.Receipt pin) leads = absurd leads
-  kept_no_receipt keep (replies.Receipt pin) leads = absurd leads
-  kept_no_receipt keep reply leads = tt
+  pub kept_no_receipt : (keep : KeeperStep) (reply : Reply) → KeepTransition keep old new reply → IsNoReceipt reply
+  kept_no_receipt (keeps.Write change) (replies.Receipt pin) transition = absurd transition
+  kept_no_receipt keep (replies.Receipt pin) transition = absurd transition
+  kept_no_receipt keep reply transition = tt

@@ -8,12 +8,12 @@ use Rattle.txc_db.specs.declared.error.DbError.TheVariants as errors
 use Rattle.txc_cushion.specs.declared.error.AddError.{AddError}
 use Rattle.txc_cushion.specs.declared.error.AddError.TheVariants as adds
 use Rattle.txc_cushion.specs.declared.pin.Pin.{Pin}
-use Rattle.txc_cushion.specs.Pinning.{pin_of}
+use Rattle.txc_cushion.specs.Pin.{pin_of}
 use Rattle.txc_pinset.specs.Members.{kept}
 use Rattle.txc_app.specs.Eval.{Next}
-use Rattle.txc_node.specs.declared.hit.Shown.{Shown}
+use Rattle.txc_node.specs.declared.hit.HitValue.{HitValue}
 use Rattle.txc_rows.specs.States.{RowValue, State}
-use Rattle.txc_registry.specs.Objects.{activity_of, Objects}
+use Rattle.txc_call_registry.specs.Objects.{activity_of, Objects}
 use Rattle.txc_call.specs.declared.error.CallError.{CallError}
 use Rattle.txc_call.specs.declared.error.CallError.TheVariants as calls
 use Rattle.txc_call.specs.declared.error.CallError.TheVariants.{NoFunction}
@@ -21,34 +21,34 @@ use Rattle.txc_call.specs.declared.need.Need.{Need}
 use Rattle.txc_call.specs.declared.need.Need.TheVariants as needs
 use Rattle.txc_call.specs.declared.reply.Reply.{Reply as CallReply}
 use Rattle.txc_call.specs.declared.reply.Reply.TheVariants as calls_replies
-use Rattle.txc_call.specs.Calling.{started}
-use Rattle.txc_call.specs.Turns.{Turn as CallTurn}
-use Rattle.txc_ports.specs.declared.error.TxnError.{TxnError}
-use Rattle.txc_ports.specs.declared.error.TxnError.TheVariants as txns
-use Rattle.txc_ports.specs.declared.kept.Kept.TheVariants as kepts
-use Rattle.txc_ports.specs.declared.reply.PortReply.{PortReply}
-use Rattle.txc_ports.specs.declared.reply.PortReply.TheVariants as ports
-use Rattle.txc_ports.specs.declared.turn.Turn.{Turn}
-use Rattle.txc_ports.specs.declared.turn.Turn.TheVariants as turns
-use Rattle.txc_ports.specs.Turns.{PortTurn}
-use Rattle.txc_ports.specs.Refusals.{refused_call, refused_pin, refused_request}
+use Rattle.txc_call.specs.CallMachine.{started}
+use Rattle.txc_call.specs.MachineTurn.{Turn as CallTurn}
+use Rattle.txc_txn_ports.specs.declared.error.TxnError.{TxnError}
+use Rattle.txc_txn_ports.specs.declared.error.TxnError.TheVariants as txns
+use Rattle.txc_txn_ports.specs.declared.kept.Kept.TheVariants as kepts
+use Rattle.txc_txn_ports.specs.declared.reply.PortReply.{PortReply}
+use Rattle.txc_txn_ports.specs.declared.reply.PortReply.TheVariants as ports
+use Rattle.txc_txn_ports.specs.declared.turn.Turn.{Turn}
+use Rattle.txc_txn_ports.specs.declared.turn.Turn.TheVariants as turns
+use Rattle.txc_txn_ports.specs.Turns.{PortTurn}
+use Rattle.txc_txn_ports.specs.Refusals.{refused_call, refused_pin, refused_request}
 use Rattle.txc_txn.specs.declared.pinning.Pinning.{Pinning}
 use Rattle.txc_txn.specs.declared.pinning.PinStep.{PinStep}
 use Rattle.txc_txn.specs.declared.pinning.PinStep.TheVariants.{Adding, Dropping}
-use Rattle.txc_txn.specs.Core.{first_call, left_after, left_pin, CoreValue, IsAnswered, IsPinningAt, IsTurn}
-use Rattle.txc_ports.specs.Turns.{IsAsk}
-use Rattle.txc_txn.specs.Kept.{TxnValue}
+use Rattle.txc_txn.specs.TxnCore.{first_call, left_after, left_pin, CoreValue, IsAnswered, IsPinningAt, IsTurn}
+use Rattle.txc_txn_ports.specs.Turns.{IsAsk}
+use Rattle.txc_txn.specs.RunningTxn.{TxnValue}
 use Rattle.txc_txn.specs.Transitions.{AsksLookup, AsksPin, BeginTransition, CallTransition, HitTransition, IsWanting, PresentPinTransition, ReplyTransition, StandingTransition, StartTransition}
-use Rattle.txc_rw.specs.Core.{QueryTurn, RwValue}
-use Rattle.txc_rw.specs.Transitions.{standing_of, RwCallTransition, RwStandingTransition}
-use Rattle.txc_world.specs.declared.did.Did.{Did}
-use Rattle.txc_world.specs.declared.did.Did.TheVariants as dids
+use Rattle.txc_txn_rw.specs.RwCore.{QueryTurn, RwValue}
+use Rattle.txc_txn_rw.specs.Transitions.{standing_of, RwCallTransition, RwStandingTransition}
+use Rattle.txc_world.specs.declared.port_outcome.PortOutcome.{PortOutcome}
+use Rattle.txc_world.specs.declared.port_outcome.PortOutcome.TheVariants as dids
 use Rattle.txc_world.specs.declared.reply.Reply.{Reply}
 use Rattle.txc_world.specs.declared.reply.Reply.TheVariants as replies
 use Rattle.txc_world.specs.declared.reply.Refusal.TheVariants as refusals
 use Rattle.txc_world.specs.Actors.{DropsNone, IsNoted, IsToldQuery}
-use Rattle.txc_world.specs.Asks.{DoesTell}
-use Rattle.txc_world.specs.Losing.{IfDidLose, IfEndLost, IfGone, IfLost, IfPortLoses, IfReplyLost, IfResultLost, IfTurnLost}
+use Rattle.txc_world.specs.PortRequests.{DoesTell}
+use Rattle.txc_world.specs.LostSnapshot.{IfDidLose, IfEndLost, IfGone, IfLost, IfPortLoses, IfReplyLost, IfResultLost, IfTurnLost}
 
 -- there is something, or nothing
 there_or_not : {X : Type 0} (o : Option X) → IsNone o ⊎ IsSome o
@@ -57,16 +57,16 @@ there_or_not (Some x) = inr search
 
 -- ---- what follows of it
 
-module _ (P Q : Type 0) (leads : P → Q) where
+module _ (P Q : Type 0) (transition : P → Q) where
   pub gone_so : (error : DbError) → IfGone error P → IfGone error Q
-  gone_so (errors.SnapshotGone horizon) h = leads h
+  gone_so (errors.SnapshotGone horizon) h = transition h
   gone_so error h = tt
 
   pub lost_so : (error : TxnError) → IfLost error P → IfLost error Q
-  lost_so (txns.SnapshotLost horizon) h = leads h
+  lost_so (txns.SnapshotLost horizon) h = transition h
   lost_so error h = tt
 
-  pub did_so : (did : Did) → IfDidLose did P → IfDidLose did Q
+  pub did_so : (did : PortOutcome) → IfDidLose did P → IfDidLose did Q
   did_so (dids.Refused error) h = gone_so error h
   did_so did h = tt
 
@@ -96,7 +96,7 @@ pub never_lost : {T : Type 0} → (P : Type 0) (result : Result T TxnError) → 
 never_lost P result h = result_so ⊥ P (λ no. absurd no) result h
 
 -- what is shown of a port shows what it lost
-pub told_lost : (P : Type 0) (reply : PortReply) (did : Did) → DoesTell reply did → IfPortLoses reply P → IfDidLose did P
+pub told_lost : (P : Type 0) (reply : PortReply) (did : PortOutcome) → DoesTell reply did → IfPortLoses reply P → IfDidLose did P
 told_lost P (ports.Pin (Ok pinned)) did told lost = rw told tt
 told_lost P (ports.Pin (Err e)) did told lost = rw told lost
 told_lost P (ports.AddPin pinned (Ok added)) did told lost = rw told tt
@@ -158,20 +158,20 @@ module _ (P : Type 0) where
     wanting_not_lost need error (inr is) = rw is.3 tt
 
     begin_not_lost : (old : CoreValue) (before : Objects) (k : Call) → BeginTransition old before k new objects turn → IfTurnLost turn P
-    begin_not_lost old before k leads = elim (there_or_not (activity_of before k.function)) [
-      | inl none ↦ rw (leads.absent none).1 tt
-      | inr some ↦ lookup_not_lost k turn (leads.there some).1
+    begin_not_lost old before k transition = elim (there_or_not (activity_of before k.function)) [
+      | inl none ↦ rw (transition.absent none).1 tt
+      | inr some ↦ lookup_not_lost k turn (transition.there some).1
     ]
 
     pub start_not_lost : (old : CoreValue) (before : Objects) (k : Call) → StartTransition old before k new objects turn → IfTurnLost turn P
-    start_not_lost old before k leads = go old.pins.members refl
+    start_not_lost old before k transition = go old.pins.members refl
       where
         go : (ms : List Pin) → old.pins.members ≡ ms → IfTurnLost turn P
-        go [] none = present_not_lost turn (leads.pins none).asks
-        go (m ∷ ms) some = begin_not_lost old before k (leads.begins (λ none. let no : m ∷ ms ≡ [] = sym some ∙ none in cc no))
+        go [] none = present_not_lost turn (transition.pins none).asks
+        go (m ∷ ms) some = begin_not_lost old before k (transition.begins (λ none. let no : m ∷ ms ≡ [] = sym some ∙ none in cc no))
 
     standing_not_lost : (stands : CallTurn) → StandingTransition stands new objects turn → IfTurnLost turn P
-    standing_not_lost stands leads = standing_turn stands turn leads
+    standing_not_lost stands transition = standing_turn stands turn transition
       where
         standing_turn : (c : CallTurn) (t : PortTurn) → StandingTransition c new objects t → IfTurnLost t P
         standing_turn (Ok standing) (turns.Ended (Err error)) l = wanting_not_lost standing.need error l
@@ -181,50 +181,50 @@ module _ (P : Type 0) where
 
     called_not_lost : (next : Next) (old : CoreValue) (before : Objects) (need : Need) (reply : CallReply) → CallTransition next old before need reply new objects turn
         → IfTurnLost turn P
-    called_not_lost next old before need reply leads = standing_not_lost leads.0 leads.2
+    called_not_lost next old before need reply transition = standing_not_lost transition.0 transition.2
 
-    hit_not_lost : (next : Next) (old : CoreValue) (before : Objects) (k : Call) (hit : Shown) → HitTransition next old before k hit new objects turn → IfTurnLost turn P
-    hit_not_lost next old before k hit leads = go (kept hit.reach old.pins.members) refl
+    hit_not_lost : (next : Next) (old : CoreValue) (before : Objects) (k : Call) (hit : HitValue) → HitTransition next old before k hit new objects turn → IfTurnLost turn P
+    hit_not_lost next old before k hit transition = go (kept hit.reach old.pins.members) refl
       where
         go : (ms : List Pin) → kept hit.reach old.pins.members ≡ ms → IfTurnLost turn P
-        go [] none = called_not_lost next old before (needs.Lookup k) calls_replies.Miss (leads.none none)
+        go [] none = called_not_lost next old before (needs.Lookup k) calls_replies.Miss (transition.none none)
         go (m ∷ ms) some =
-            called_not_lost next old before (needs.Lookup k) (calls_replies.Hit hit) (leads.held (λ none. let no : m ∷ ms ≡ [] = sym some ∙ none in cc no))
+            called_not_lost next old before (needs.Lookup k) (calls_replies.Hit hit) (transition.held (λ none. let no : m ∷ ms ≡ [] = sym some ∙ none in cc no))
 
     pinned_not_lost : (first : Option Call) (old : CoreValue) (before : Objects) → PresentPinTransition first old before new objects turn → IfTurnLost turn P
-    pinned_not_lost (Some k) old before leads = begin_not_lost old before k leads
-    pinned_not_lost None old before leads = ask_not_lost turn leads.1
+    pinned_not_lost (Some k) old before transition = begin_not_lost old before k transition
+    pinned_not_lost None old before transition = ask_not_lost turn transition.1
 
     -- a turn that comes of a reply loses what the port has lost
     pub reply_lost : (next : Next) (old : CoreValue) (before : Objects) (reply : PortReply) → IsAnswered old reply → DropsNone old
         → IfPortLoses reply P → ReplyTransition next old before reply new objects turn → IfTurnLost turn P
-    reply_lost next old before (ports.Pin (Ok pinned)) to drops lost leads = rw leads tt
-    reply_lost next old before (ports.Pin (Err e)) to drops lost leads = rw leads (request_lost e lost)
-    reply_lost next old before (ports.AddPin pinned (Ok added)) to drops lost leads = pinned_not_lost (first_call old.pinning) old before leads
-    reply_lost next old before (ports.AddPin pinned (Err e)) to drops lost leads = rw leads.0 tt
-    reply_lost next old before (ports.Unpin unpinned) to drops lost leads =
-        rw (leads to.0 to.1 to.2) (lost_so ⊥ P (λ no. absurd no) to.1 (drops to.0 to.1 to.2))
-    reply_lost next old before (ports.Lookup None) to drops lost leads = called_not_lost next old before (needs.Lookup to.0) calls_replies.Miss (leads to.0 to.1.1)
-    reply_lost next old before (ports.Lookup (Some hit)) to drops lost leads = hit_not_lost next old before to.0 hit.answer (leads to.0 to.1.1)
-    reply_lost next old before (ports.Query (Ok found)) to drops lost leads =
-        called_not_lost next old before (needs.Query to.0) (calls_replies.Found found.answer) (leads to.0 to.1.1)
-    reply_lost next old before (ports.Query (Err e)) to drops lost leads = rw leads (request_lost e lost)
-    reply_lost next old before (ports.Insert kept) to drops lost leads = called_not_lost next old before (needs.Insert to.0) calls_replies.Inserted (leads to.0 to.1.1)
+    reply_lost next old before (ports.Pin (Ok pinned)) to drops lost transition = rw transition tt
+    reply_lost next old before (ports.Pin (Err e)) to drops lost transition = rw transition (request_lost e lost)
+    reply_lost next old before (ports.AddPin pinned (Ok added)) to drops lost transition = pinned_not_lost (first_call old.pinning) old before transition
+    reply_lost next old before (ports.AddPin pinned (Err e)) to drops lost transition = rw transition.0 tt
+    reply_lost next old before (ports.Unpin unpinned) to drops lost transition =
+        rw (transition to.0 to.1 to.2) (lost_so ⊥ P (λ no. absurd no) to.1 (drops to.0 to.1 to.2))
+    reply_lost next old before (ports.Lookup None) to drops lost transition = called_not_lost next old before (needs.Lookup to.0) calls_replies.Miss (transition to.0 to.1.1)
+    reply_lost next old before (ports.Lookup (Some hit)) to drops lost transition = hit_not_lost next old before to.0 hit.answer (transition to.0 to.1.1)
+    reply_lost next old before (ports.Query (Ok found)) to drops lost transition =
+        called_not_lost next old before (needs.Query to.0) (calls_replies.Found found.answer) (transition to.0 to.1.1)
+    reply_lost next old before (ports.Query (Err e)) to drops lost transition = rw transition (request_lost e lost)
+    reply_lost next old before (ports.Insert kept) to drops lost transition = called_not_lost next old before (needs.Insert to.0) calls_replies.Inserted (transition to.0 to.1.1)
 
   -- ---- a call of a read-write transaction
 
   pub rw_not_lost : (stands : CallTurn) (new : RwValue) (objects : Objects) (turn : QueryTurn) → RwStandingTransition stands new objects turn → IfTurnLost turn P
-  rw_not_lost (Ok standing) new objects (turns.Ended (Err error)) leads = rw leads tt
-  rw_not_lost (Ok standing) new objects (turns.Ended (Ok value)) leads = tt
-  rw_not_lost (Ok standing) new objects (turns.Ask query) leads = tt
-  rw_not_lost (Err error) new objects turn leads = rw leads (call_not_lost error)
+  rw_not_lost (Ok standing) new objects (turns.Ended (Err error)) transition = rw transition tt
+  rw_not_lost (Ok standing) new objects (turns.Ended (Ok value)) transition = tt
+  rw_not_lost (Ok standing) new objects (turns.Ask query) transition = tt
+  rw_not_lost (Err error) new objects turn transition = rw transition (call_not_lost error)
 
   pub rw_start_not_lost : (next : Next) (s : State) (k : Call) (before : Objects) (new : RwValue) (objects : Objects) (turn : QueryTurn)
       → (IsSome (activity_of before k.function) → RwCallTransition next s (standing_of (started k) before) [] new objects turn)
       → (IsNone (activity_of before k.function) → turn ≡ turns.Ended (Err (txns.Call (NoFunction k.function)))) → IfTurnLost turn P
-  rw_start_not_lost next s k before new objects turn leads missing = elim (there_or_not (activity_of before k.function)) [
+  rw_start_not_lost next s k before new objects turn transition missing = elim (there_or_not (activity_of before k.function)) [
     | inl none ↦ rw (missing none) tt
-    | inr some ↦ let on = leads some in rw_not_lost on.0 new objects turn on.2
+    | inr some ↦ let on = transition some in rw_not_lost on.0 new objects turn on.2
   ]
 
 -- ---- the pin of the present
@@ -253,7 +253,7 @@ dropping_drops_none c stamp error dropping = λ at_stamp why at.
 
 pub drops_next : (next : Next) (old new : TxnValue) (reply : PortReply) (turn : PortTurn) → IsTurn new.core turn → left_pin new.core.pinning ≡ left_after reply
     → ReplyTransition next old.core old.objects reply new.core new.objects turn → DropsNone new.core
-drops_next next old new (ports.Pin (Ok pinned)) turn is left leads =
-    adding_drops_none new.core (pin_of pinned) (subst (λ (t : PortTurn). IsTurn new.core t) leads is)
-drops_next next old new (ports.AddPin pinned (Err e)) turn is left leads = dropping_drops_none new.core pinned.stamp e leads.1
-drops_next next old new reply turn is left leads = none_left new.core left
+drops_next next old new (ports.Pin (Ok pinned)) turn is left transition =
+    adding_drops_none new.core (pin_of pinned) (subst (λ (t : PortTurn). IsTurn new.core t) transition is)
+drops_next next old new (ports.AddPin pinned (Err e)) turn is left transition = dropping_drops_none new.core pinned.stamp e transition.1
+drops_next next old new reply turn is left transition = none_left new.core left

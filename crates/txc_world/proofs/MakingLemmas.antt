@@ -7,7 +7,7 @@ use Rattle.txc_db.specs.declared.error.DbError.TheVariants.{Memory}
 use Rattle.txc_db.specs.declared.pinned.Pinned.{Pinned}
 use Rattle.txc_db.specs.DatabaseValue.{DatabaseValue, front_of}
 use Rattle.txc_db.specs.Refusals.{IsWant}
-use Rattle.txc_db.specs.Seen.{FrontValue}
+use Rattle.txc_db.specs.FrontsAndFeeds.{FrontValue}
 use Rattle.txc_cushion.specs.Cushion.{CushionValue, empty_cushion}
 use Rattle.txc_cushion.specs.Cushion.{cushion_front}
 use Rattle.txc_shared.specs.Nodes.{NodeValue}
@@ -16,7 +16,7 @@ use Rattle.txc_world.specs.declared.settings.WorldSettings.{WorldSettings}
 use Rattle.txc_world.specs.Parts.{IsPartOf}
 use Rattle.txc_stream.specs.Names.{HasRow}
 use Rattle.txc_world.specs.Ports.{ArePorts, IsNodeOf}
-use Rattle.txc_world.specs.Making.{node_settings, AreNewNodes, IsNewNode}
+use Rattle.txc_world.specs.NewWorld.{node_settings, AreNewNodes, IsNewNode}
 use Rattle.txc_world.proofs.PartLemmas.{part_itself}
 
 -- what ended out of memory ended for want of it

@@ -6,10 +6,10 @@ use mathlib.Core.List.{IsPrefix}
 use Rattle.txc_db.specs.History.{History, state_at}
 use Rattle.txc_cushion.specs.declared.pin.Pin.{Pin}
 use Rattle.txc_app.specs.Eval.{Next}
-use Rattle.txc_ports.specs.declared.bounds.Bounds.{Bounds}
-use Rattle.txc_ports.specs.declared.recorded.Recorded.{Recorded}
-use Rattle.txc_ports.specs.Answers.{AreConsistent, IsFresh}
-use Rattle.txc_txn.specs.Kept.{IsTxn}
+use Rattle.txc_txn_ports.specs.declared.bounds.Bounds.{Bounds}
+use Rattle.txc_txn_ports.specs.declared.recorded.Recorded.{Recorded}
+use Rattle.txc_txn_ports.specs.Answers.{AreConsistent, IsFresh}
+use Rattle.txc_txn.specs.RunningTxn.{IsTxn}
 use Rattle.txc_world.specs.declared.actor.OpenTxn.{OpenTxn}
 use Rattle.txc_world.specs.declared.actor.Actor.{Actor}
 use Rattle.txc_world.specs.declared.actor.Actor.TheVariants as actors
@@ -54,13 +54,13 @@ reading_is a b same = cc same
 module _ {A C : Type 0} (next : Next) (o : OpenTxn A C) (kept : IsTxn next o.txn) (M : History) (part : IsPrefix o.txn.core.seen.history M) where
   members_of : AreMembersOf next M (told_reading o) o.txn.core.pins.has_present o.txn.core.pins.members
   members_of = record {
-    some = kept.holds.meant.set.some;
+    some = kept.holds.valid.set.some;
     fresh = λ k d below.
         fresh_later o.txn.core.seen.history M o.txn.core.bounds (slice_index_or o.txn.core.pins.members k d) part
-        (kept.holds.meant.fresh k d below);
+        (kept.holds.valid.fresh k d below);
     consistent = λ k d below.
         consistent_later next o.txn.core.seen.history M o.txn.core.bounds o.txn.core.recorded (slice_index_or o.txn.core.pins.members k d) part
-        (kept.holds.meant.fresh k d below) (kept.holds.meant.consistent k d below);
+        (kept.holds.valid.fresh k d below) (kept.holds.valid.consistent k d below);
   }
 
 -- the actor of the number is as it is shown

@@ -6,11 +6,11 @@ use Rattle.std.specs.Result.{result_unwrap_or}
 use mathlib.Core.List.{IsPrefix}
 use Rattle.txc_tags.specs.Keys.{Call}
 use Rattle.txc_db.specs.History.{History}
-use Rattle.txc_db.specs.Seen.{FrontValue}
+use Rattle.txc_db.specs.FrontsAndFeeds.{FrontValue}
 use Rattle.txc_db.specs.declared.answered.Answered.{Answered}
 use Rattle.txc_node.specs.Cache.{lookup_answer, swept_count}
 use Rattle.txc_node.specs.declared.entry.Entry.{Entry}
-use Rattle.txc_node.specs.declared.hit.Shown.{Shown}
+use Rattle.txc_node.specs.declared.hit.HitValue.{HitValue}
 use Rattle.txc_node.specs.declared.op.Op.{Op}
 use Rattle.txc_node.specs.declared.op.Op.TheVariants.{Lookup, Sweep}
 use Rattle.txc_shared.specs.declared.advanced.Advanced.{Advanced}
@@ -92,10 +92,10 @@ module _ (whole : FrontValue) where
   stays_left old new errors.PassesFull same = stays_same old new same
   stays_left old new errors.Memory same = stays_same old new same
 
-  pub stays_looked_up : (old new : NodeValue) (pass : ℕ) (key : Call) (lo hi : ℕ) (found : Option Shown)
+  pub stays_looked_up : (old new : NodeValue) (pass : ℕ) (key : Call) (lo hi : ℕ) (found : Option HitValue)
       → LookupTransition pass key lo hi old new found → StaysNode whole old new
-  stays_looked_up old new pass key lo hi (Some shown) leads = stays_after old new pass (Lookup key lo hi) leads.0
-  stays_looked_up old new pass key lo hi None (inl leads) = stays_after old new pass (Lookup key lo hi) leads.0
+  stays_looked_up old new pass key lo hi (Some shown) transition = stays_after old new pass (Lookup key lo hi) transition.0
+  stays_looked_up old new pass key lo hi None (inl transition) = stays_after old new pass (Lookup key lo hi) transition.0
   stays_looked_up old new pass key lo hi None (inr refused) = stays_left old new refused.0 refused.2
 
   -- one of two parts is a part
@@ -123,15 +123,15 @@ module _ (whole : FrontValue) where
 
   pub stays_advanced : (old new : NodeValue) (pass : ℕ) (advanced : Result Advanced NodeError)
       → AdvanceTransition pass whole old new advanced → StaysNode whole old new
-  stays_advanced old new pass (Ok (Taken stamp closed)) leads =
-      subst (λ (n : NodeValue). StaysNode whole old n) (sym leads.1.0) (record { settings = refl; from = refl; name = refl; row = λ h. refl; passes = refl; seen = λ h w. part_itself whole })
-  stays_advanced old new pass (Ok Idle) leads = stays_seeing old new leads.1.0
-  stays_advanced old new pass (Err e) leads = stays_left old new e leads.0
+  stays_advanced old new pass (Ok (Taken stamp closed)) transition =
+      subst (λ (n : NodeValue). StaysNode whole old n) (sym transition.1.0) (record { settings = refl; from = refl; name = refl; row = λ h. refl; passes = refl; seen = λ h w. part_itself whole })
+  stays_advanced old new pass (Ok Idle) transition = stays_seeing old new transition.1.0
+  stays_advanced old new pass (Err e) transition = stays_left old new e transition.0
 
   pub stays_swept : (old new : NodeValue) (pass horizon : ℕ) (swept : Result ℕ NodeError)
       → SweepTransition pass horizon old new swept → StaysNode whole old new
-  stays_swept old new pass horizon (Ok count) leads = stays_after old new pass (Sweep horizon) leads.1
-  stays_swept old new pass horizon (Err e) leads = stays_left old new e leads.0
+  stays_swept old new pass horizon (Ok count) transition = stays_after old new pass (Sweep horizon) transition.1
+  stays_swept old new pass horizon (Err e) transition = stays_left old new e transition.0
 
 -- ---- a sweep, by what it returns
 
@@ -143,7 +143,7 @@ swept_so pass horizon old new (Err e) after answer can left refused = (left, ref
 
 -- ---- a lookup, by what it returns
 
-pub looked_up : (pass : ℕ) (key : Call) (lo hi : ℕ) (old new : NodeValue) (r : Result (Option (Answered Shown)) NodeError)
+pub looked_up : (pass : ℕ) (key : Call) (lo hi : ℕ) (old new : NodeValue) (r : Result (Option (Answered HitValue)) NodeError)
     → OnOk r (new ≡ after_call old pass (Lookup key lo hi)) → IfOk r (λ o. option_map (λ f. f.answer) o ≡ lookup_answer old.cache key lo hi)
     → IfErr r (IsNodeLeft old new) → IfErr r (IsLookupRefused old lo hi)
     → LookupTransition pass key lo hi old new (option_map (λ f. f.answer) (result_unwrap_or r None))
@@ -152,12 +152,12 @@ looked_up pass key lo hi old new (Ok None) after answer left refused = inl (afte
 looked_up pass key lo hi old new (Err e) after answer left refused = inr (e, refused, left)
 
 -- what holds of what it found holds of what the node has
-pub found_so : (P : Answered Shown → Type 0) (r : Result (Option (Answered Shown)) NodeError) → IfOk r (λ o. IfSome o P) → IfSome (result_unwrap_or r None) P
+pub found_so : (P : Answered HitValue → Type 0) (r : Result (Option (Answered HitValue)) NodeError) → IfOk r (λ o. IfSome o P) → IfSome (result_unwrap_or r None) P
 found_so P (Ok o) h = h
 found_so P (Err e) h = tt
 
 -- which a whole node alone shows, so that it is part of the whole
-pub found_part : (whole : FrontValue) (node : NodeValue) (lo hi : ℕ) (r : Result (Option (Answered Shown)) NodeError) → (node.broken ≡ false → IsPartOf whole node.seen)
+pub found_part : (whole : FrontValue) (node : NodeValue) (lo hi : ℕ) (r : Result (Option (Answered HitValue)) NodeError) → (node.broken ≡ false → IsPartOf whole node.seen)
     → IfOk r (λ o. IfSome o (λ f. f.front ≡ node.seen)) → OnOk r (CanRecord node × (lo ≤ hi)) → IfSome (result_unwrap_or r None) (λ f. IsPartOf whole f.front)
 found_part whole node lo hi (Ok (Some hit)) seen front can = subst (IsPartOf whole) (sym front) (seen can.0.whole)
 found_part whole node lo hi (Ok None) seen front can = tt

@@ -1,7 +1,7 @@
 -- Fronts that are part of others.
 use Rattle.std.proofs.Common.{◌≡◌, ◌∙◌}
 use Rattle.txc_stream.proofs.Offered.{prefix_self, prefix_trans}
-use Rattle.txc_db.specs.Seen.{FrontValue}
+use Rattle.txc_db.specs.FrontsAndFeeds.{FrontValue}
 use Rattle.txc_world.specs.Parts.{IsPartOf}
 
 pub part_itself : (w : FrontValue) → IsPartOf w w

@@ -15,7 +15,7 @@ use Rattle.txc_validity.specs.Answers.{IsAnswer}
 use Rattle.txc_db.specs.declared.error.DbError.{DbError}
 use Rattle.txc_db.specs.declared.error.DbError.TheVariants as errors
 use Rattle.txc_db.specs.declared.pinned.Pinned.{Pinned}
-use Rattle.txc_db.specs.Seen.{FrontValue}
+use Rattle.txc_db.specs.FrontsAndFeeds.{FrontValue}
 use Rattle.txc_db.specs.DatabaseValue.{DatabaseValue, after_commit, after_pin, is_held, newest, without, after_event_of, where_some, newest_net, newest_state, front_of}
 use Rattle.txc_db.specs.History.{commit_event, moment_at, pin_event, state_at}
 use Rattle.txc_db.specs.Calls.{IsAnswerable, IsLeft, IsPinnable, IsQueryRefused}
@@ -28,8 +28,8 @@ use Rattle.txc_shared.specs.declared.error.NodeError.{NodeError}
 use Rattle.txc_world.specs.NodeSteps.{AdvanceTransition}
 use Rattle.txc_world.specs.Parts.{IsPartOf}
 use Rattle.txc_world.specs.Ports.{PortsValue, whole_of, IsNodeOf, ArePorts, KeepsRow, HasLedNode}
-use Rattle.txc_world.specs.Asks.{AddTransition, HasPinned, QueryTransition}
-use Rattle.txc_world.specs.Keeping.{stamps_of_pins, HasAddedSpare, HasPinnedSpare}
+use Rattle.txc_world.specs.PortRequests.{AddTransition, HasPinned, QueryTransition}
+use Rattle.txc_world.specs.KeeperAtPorts.{stamps_of_pins, HasAddedSpare, HasPinnedSpare}
 use Rattle.txc_world.proofs.PartLemmas.{part_itself, part_then}
 use Rattle.txc_world.proofs.NodeLemmas.{StaysNode, node_stays}
 
@@ -141,11 +141,11 @@ module _ (p q : PortsValue) (same : p ≡ q) where
       subst (λ (v : PortsValue). IsNodeOf (whole_of v) v.actors old) same
       (subst (IsNodeOf (whole_of p) p.actors) (sym is) (All-get_or (IsNodeOf (whole_of p) p.actors) p.nodes at old there are.nodes))
 
-  pub led_from : (at : ℕ) (leads : NodeValue → NodeValue → Type 0) (old new : NodeValue) → at < length q.nodes
-      → old ≡ get_or p.nodes at old → leads old new → HasLedNode at leads q (record p { nodes = set p.nodes at new })
-  led_from at leads old new within is led =
+  pub led_from : (at : ℕ) (transition : NodeValue → NodeValue → Type 0) (old new : NodeValue) → at < length q.nodes
+      → old ≡ get_or p.nodes at old → transition old new → HasLedNode at transition q (record p { nodes = set p.nodes at new })
+  led_from at transition old new within is led =
       let there : at < length p.nodes = subst (λ (v : PortsValue). at < length v.nodes) (sym same) within in
-      subst (λ (v : PortsValue). HasLedNode at leads v (record p { nodes = set p.nodes at new })) same (record {
+      subst (λ (v : PortsValue). HasLedNode at transition v (record p { nodes = set p.nodes at new })) same (record {
         before = old;
         after = new;
         there = slice_get-get_or p.nodes at old there ∙ ap Some (sym is);
@@ -172,15 +172,15 @@ query_led p query stamp (Err e) answer tag only_if refused = refused
 -- as it is shown: a refusal for want of memory is one of a query that has an answer
 pub query_shown : (p : PortsValue) (query : Query) (stamp : ℕ) (found shown : Result Found DbError) → QueryTransition query stamp p found
     → (shown ≡ found) ⊎ (IsOk found × (shown ≡ Err errors.Memory)) → QueryTransition query stamp p shown
-query_shown p query stamp found shown leads (inl same) = subst (QueryTransition query stamp p) (sym same) leads
-query_shown p query stamp (Ok found) shown leads (inr out) = subst (QueryTransition query stamp p) (sym out.1) leads.1
-query_shown p query stamp (Err e) shown leads (inr out) = absurd (cc out.0)
+query_shown p query stamp found shown transition (inl same) = subst (QueryTransition query stamp p) (sym same) transition
+query_shown p query stamp (Ok found) shown transition (inr out) = subst (QueryTransition query stamp p) (sym out.1) transition.1
+query_shown p query stamp (Err e) shown transition (inr out) = absurd (cc out.0)
 
 pub query_refused : (p : PortsValue) (query : Query) (stamp : ℕ) (found : Result Found DbError) (e : DbError) → QueryTransition query stamp p found
     → (found ≡ Err e) ⊎ (IsOk found × (e ≡ errors.Memory)) → IsQueryRefused p.database query stamp e
-query_refused p query stamp found e leads (inl is) = subst (QueryTransition query stamp p) is leads
-query_refused p query stamp (Ok found) e leads (inr out) = rw out.1 leads.1
-query_refused p query stamp (Err other) e leads (inr out) = absurd (cc out.0)
+query_refused p query stamp found e transition (inl is) = subst (QueryTransition query stamp p) is transition
+query_refused p query stamp (Ok found) e transition (inr out) = rw out.1 transition.1
+query_refused p query stamp (Err other) e transition (inr out) = absurd (cc out.0)
 
 -- ---- events more
 
@@ -338,15 +338,15 @@ pub added_spare : {A : Type 0} (p q : PortsValue) (same : p ≡ q) (stamp i : �
     (reply : Result A AddError) → i < length p.spare → pinned ≡ get_or p.spare i pinned → get_or (stamps_of_pins p.spare) i 0 ≡ stamp
     → is_held stamp (stamps_of_pins p.spare) ≡ true → stamps_of_pins (remove p.spare i) ≡ without stamp (stamps_of_pins p.spare) → spare ≡ remove p.spare i
     → AddTransition pinned (record p { spare = spare }) new reply → HasAddedSpare stamp q new reply
-added_spare {A = A} p q same stamp i pinned spare new reply within is there held place out leads =
+added_spare {A = A} p q same stamp i pinned spare new reply within is there held place out transition =
     subst (λ (v : PortsValue). HasAddedSpare stamp v new reply) same (record {
       at = i;
       pinned = pinned;
       there = slice_get-get_or p.spare i pinned within ∙ ap Some (sym is);
       stamp_is = sym (stamp_at p.spare i pinned within is) ∙ there;
       held = held;
-      spare = kept reply leads ∙ place;
-      added = subst (λ (l : List Pinned). AddTransition pinned (record p { spare = l }) new reply) out leads;
+      spare = kept reply transition ∙ place;
+      added = subst (λ (l : List Pinned). AddTransition pinned (record p { spare = l }) new reply) out transition;
     })
   where
     kept : (r : Result A AddError) → AddTransition pinned (record p { spare = spare }) new r → stamps_of_pins new.spare ≡ stamps_of_pins (remove p.spare i)

@@ -5,23 +5,23 @@ use Rattle.std.proofs.lemmas.Option.{slice_get-map}
 use Rattle.std.proofs.lemmas.List.{map-set}
 use Rattle.std.proofs.lemmas.List.Elements.{All-set, All-weaker}
 use Rattle.txc_app.specs.Eval.{Next}
-use Rattle.txc_ports.specs.declared.request.PortRequest.{PortRequest}
-use Rattle.txc_txn.specs.Core.{CoreValue}
+use Rattle.txc_txn_ports.specs.declared.request.PortRequest.{PortRequest}
+use Rattle.txc_txn.specs.TxnCore.{CoreValue}
 use Rattle.txc_txn.proofs.Offered.{adds_weaker}
-use Rattle.txc_rw.specs.Laws.{HoldsInLonger}
+use Rattle.txc_txn_rw.specs.Laws.{HoldsInLonger}
 use Rattle.txc_world.specs.declared.actor.OpenCall.{OpenCall}
 use Rattle.txc_world.specs.declared.actor.Actor.{Actor}
 use Rattle.txc_world.specs.declared.actor.Actor.TheVariants.{Idle, Reading, Writing, Leaving}
 use Rattle.txc_world.specs.declared.reply.Reply.{Reply}
 use Rattle.txc_world.specs.declared.settings.WorldSettings.{WorldSettings}
-use Rattle.txc_world.specs.declared.step.Act.{Act}
-use Rattle.txc_world.specs.declared.step.Keep.{Keep}
+use Rattle.txc_world.specs.declared.step.ActorStep.{ActorStep}
+use Rattle.txc_world.specs.declared.step.KeeperStep.{KeeperStep}
 use Rattle.txc_world.specs.declared.step.Step.TheVariants as steps
 use Rattle.txc_world.specs.Observation.{Observation, act_in, after, floor_at, floor_by, keep_in, observed_after, spare_after, IsActDue, IsDue, IsExplainedIn, IsKeepDue, ReplyExplains}
 use Rattle.txc_world.specs.Parts.{IsPartOf}
 use Rattle.txc_world.specs.Ports.{PortsValue, whole_of, KeepsRow}
 use Rattle.txc_world.specs.Actors.{observed_at, observed_of, HasCall, IsActor, IsActorThere}
-use Rattle.txc_world.specs.Keeping.{stamps_of_pins}
+use Rattle.txc_world.specs.KeeperAtPorts.{stamps_of_pins}
 use Rattle.txc_world.specs.Worlds.{told_of, IsWorld}
 use Rattle.txc_world.proofs.Whole.{part_kept}
 
@@ -98,7 +98,7 @@ module _ {A C : Type 0} (settings : WorldSettings) (ports : PortsValue) (floors 
   observed_there = slice_get-map observed_at actors number ∙ ap (λ (o : Option (Option (Actor A C))). option_map observed_at o) is
 
   -- what is seen of the world after the step is what is shown
-  pub told_act : (new : PortsValue) (floors' : List ℕ) (actors' : List (Option (Actor A C))) (actor' : Actor A C) (act : Act) (reply : Reply) (now : Observation)
+  pub told_act : (new : PortsValue) (floors' : List ℕ) (actors' : List (Option (Actor A C))) (actor' : Actor A C) (act : ActorStep) (reply : Reply) (now : Observation)
       → floors' ≡ slice_set floors number (floor_by reply (floor_at floors number))
       → actors' ≡ slice_set actors number (Some actor')
       → observed_of actor' ≡ observed_after act reply (observed_of actor)
@@ -109,13 +109,13 @@ module _ {A C : Type 0} (settings : WorldSettings) (ports : PortsValue) (floors 
       rw (noted, put, observed_there, history, spare, map-set observed_at actors number (Some actor'), observed) refl
       in told ∙ ap (λ (t : Observation). after t (steps.Actor number act) reply) shows
 
-  pub due_act : (act : Act) (reply : Reply) (now : Observation) → IsActDue (observed_of actor) act reply → told_of settings ports floors actors ≡ now
+  pub due_act : (act : ActorStep) (reply : Reply) (now : Observation) → IsActDue (observed_of actor) act reply → told_of settings ports floors actors ≡ now
       → IsDue now (steps.Actor number act) reply
   due_act act reply now h shows =
       let due : IsDue (told_of settings ports floors actors) (steps.Actor number act) reply = rw observed_there h in
       subst (λ (t : Observation). IsDue t (steps.Actor number act) reply) shows due
 
-  pub explained_act : (next : Next) (new : PortsValue) (act : Act) (reply : Reply) (now : Observation)
+  pub explained_act : (next : Next) (new : PortsValue) (act : ActorStep) (reply : Reply) (now : Observation)
       → ReplyExplains next new.database.history (length ports.database.history) (observed_of actor) reply
       → told_of settings ports floors actors ≡ now → IsExplainedIn next new.database.history now (steps.Actor number act) reply
   explained_act next new act reply now h shows =
@@ -125,7 +125,7 @@ module _ {A C : Type 0} (settings : WorldSettings) (ports : PortsValue) (floors 
 -- ---- what is shown of the keeper's step
 
 module _ {A C : Type 0} (settings : WorldSettings) (ports : PortsValue) (floors : List ℕ) (actors : List (Option (Actor A C))) where
-  pub told_keep : (new : PortsValue) (keep : Keep) (reply : Reply) (now : Observation) → new.database.history ≡ keep_in keep reply ports.database.history
+  pub told_keep : (new : PortsValue) (keep : KeeperStep) (reply : Reply) (now : Observation) → new.database.history ≡ keep_in keep reply ports.database.history
       → stamps_of_pins new.spare ≡ spare_after keep reply (stamps_of_pins ports.spare) → told_of settings ports floors actors ≡ now
       → told_of settings new floors actors ≡ after now (steps.Keeper keep) reply
   told_keep new keep reply now history spare shows =
@@ -133,7 +133,7 @@ module _ {A C : Type 0} (settings : WorldSettings) (ports : PortsValue) (floors 
       λ i. record { settings = settings; history = history i; spare = spare i; floors = floors; actors = map observed_at actors }
       in told ∙ ap (λ (t : Observation). after t (steps.Keeper keep) reply) shows
 
-  pub due_keep : (keep : Keep) (reply : Reply) (now : Observation) → length ports.nodes ≡ settings.nodes → IsKeepDue (length ports.nodes) (stamps_of_pins ports.spare) keep reply
+  pub due_keep : (keep : KeeperStep) (reply : Reply) (now : Observation) → length ports.nodes ≡ settings.nodes → IsKeepDue (length ports.nodes) (stamps_of_pins ports.spare) keep reply
       → told_of settings ports floors actors ≡ now → IsDue now (steps.Keeper keep) reply
   due_keep keep reply now nodes due shows =
       subst (λ (t : Observation). IsDue t (steps.Keeper keep) reply) shows (subst (λ (n : ℕ). IsKeepDue n (stamps_of_pins ports.spare) keep reply) nodes due)

@@ -5,22 +5,22 @@ use Rattle.std.specs.Prelude.{if◌then◌else◌, nat_lt, MatchOption}
 use mathlib.Core.List.{IsPrefix}
 use Rattle.txc_rows.specs.States.{State}
 use Rattle.txc_rows.specs.declared.query.Change.{Change}
-use Rattle.txc_rw.specs.Answers.{AreRightIn}
-use Rattle.txc_rw.specs.Outcomes.{HasChanged, HasChangedNothing}
+use Rattle.txc_txn_rw.specs.Answers.{AreRightIn}
+use Rattle.txc_txn_rw.specs.Outcomes.{HasChanged, HasChangedNothing}
 use Rattle.txc_db.specs.History.{History, commit_event, pin_event, state_at}
 use Rattle.txc_cushion.specs.declared.pin.Pin.{Pin}
 use Rattle.txc_app.specs.Eval.{Next}
-use Rattle.txc_world.specs.declared.step.Act.{Act}
-use Rattle.txc_world.specs.declared.step.Act.TheVariants.{Request, Commit}
-use Rattle.txc_world.specs.declared.step.Keep.{Keep}
-use Rattle.txc_world.specs.declared.step.Keep.TheVariants as keeps
+use Rattle.txc_world.specs.declared.step.ActorStep.{ActorStep}
+use Rattle.txc_world.specs.declared.step.ActorStep.TheVariants.{Request, Commit}
+use Rattle.txc_world.specs.declared.step.KeeperStep.{KeeperStep}
+use Rattle.txc_world.specs.declared.step.KeeperStep.TheVariants as keeps
 use Rattle.txc_world.specs.declared.step.Step.{Step}
 use Rattle.txc_world.specs.declared.step.Step.TheVariants.{Actor, BeginIn, Keeper}
-use Rattle.txc_world.specs.declared.did.Did.{Did}
-use Rattle.txc_world.specs.declared.did.Did.TheVariants as dids
+use Rattle.txc_world.specs.declared.port_outcome.PortOutcome.{PortOutcome}
+use Rattle.txc_world.specs.declared.port_outcome.PortOutcome.TheVariants as dids
 use Rattle.txc_world.specs.declared.reply.Reply.{Reply}
 use Rattle.txc_world.specs.declared.reply.Reply.TheVariants as replies
-use Rattle.txc_world.specs.Observation.{Writing, ObservedActor, reading, writing, Observation, act_in, act_at, after, begin_at, commit_in, floor_at, did_in, keep_in, told_by, AreDue, AreExplained, AreExplainedIn, CommitExplains, CommitMakes, IsCommitOf, IsDue, IsExplainedIn, IsNoCommit, IsReceiptOfActor, ReplyExplains}
+use Rattle.txc_world.specs.Observation.{Writing, ObservedActor, reading, writing, Observation, act_in, act_at, after, begin_at, commit_in, floor_at, did_in, keep_in, observed_from, AreDue, AreExplained, AreExplainedIn, CommitExplains, CommitMakes, IsCommitOf, IsDue, IsExplainedIn, IsNoCommit, IsReceiptOfActor, ReplyExplains}
 use Rattle.txc_stream.proofs.Offered.{prefix_self, prefix_take, prefix_trans}
 use Rattle.txc_world.proofs.Explaining.{explained_later, state_later}
 use Rattle.txc_world.proofs.Paired.{paired}
@@ -28,32 +28,32 @@ use Rattle.txc_world.proofs.Paired.{paired}
 -- ---- one more step and its reply
 
 pub told_more : (told : Observation) (steps : List Step) (replies : List Reply) (step : Step) (reply : Reply) → length replies ≡ length steps
-    → told_by told (steps ++ step ∷ []) (replies ++ reply ∷ []) ≡ after (told_by told steps replies) step reply
+    → observed_from told (steps ++ step ∷ []) (replies ++ reply ∷ []) ≡ after (observed_from told steps replies) step reply
 told_more told steps replies step reply e = paired
-    (λ (ss : List Step) (rs : List Reply). (told : Observation) → told_by told (ss ++ step ∷ []) (rs ++ reply ∷ []) ≡ after (told_by told ss rs) step reply)
+    (λ (ss : List Step) (rs : List Reply). (told : Observation) → observed_from told (ss ++ step ∷ []) (rs ++ reply ∷ []) ≡ after (observed_from told ss rs) step reply)
     (λ told. refl)
     (λ s ss r rs more told. more (after told s r)) steps replies e told
 
 pub explained_more : (next : Next) (told : Observation) (steps : List Step) (replies : List Reply) (step : Step) (reply : Reply)
     → length replies ≡ length steps → AreExplained next told steps replies
-    → IsExplainedIn next (after (told_by told steps replies) step reply).history (told_by told steps replies) step reply
+    → IsExplainedIn next (after (observed_from told steps replies) step reply).history (observed_from told steps replies) step reply
     → AreExplained next told (steps ++ step ∷ []) (replies ++ reply ∷ [])
 explained_more next told steps replies step reply e = paired
-    (λ (ss : List Step) (rs : List Reply). (told : Observation) → AreExplained next told ss rs → IsExplainedIn next (after (told_by told ss rs) step reply).history (told_by told ss rs) step reply
+    (λ (ss : List Step) (rs : List Reply). (told : Observation) → AreExplained next told ss rs → IsExplainedIn next (after (observed_from told ss rs) step reply).history (observed_from told ss rs) step reply
     → AreExplained next told (ss ++ step ∷ []) (rs ++ reply ∷ []))
     (λ told h k. (k, tt))
     (λ s ss r rs more told h k. (h.0, more (after told s r) h.1 k)) steps replies e told
 
 pub due_more : (told : Observation) (steps : List Step) (replies : List Reply) (step : Step) (reply : Reply) → length replies ≡ length steps
-    → AreDue told steps replies → IsDue (told_by told steps replies) step reply → AreDue told (steps ++ step ∷ []) (replies ++ reply ∷ [])
+    → AreDue told steps replies → IsDue (observed_from told steps replies) step reply → AreDue told (steps ++ step ∷ []) (replies ++ reply ∷ [])
 due_more told steps replies step reply e = paired
-    (λ (ss : List Step) (rs : List Reply). (told : Observation) → AreDue told ss rs → IsDue (told_by told ss rs) step reply → AreDue told (ss ++ step ∷ []) (rs ++ reply ∷ []))
+    (λ (ss : List Step) (rs : List Reply). (told : Observation) → AreDue told ss rs → IsDue (observed_from told ss rs) step reply → AreDue told (ss ++ step ∷ []) (rs ++ reply ∷ []))
     (λ told h k. (k, tt))
     (λ s ss r rs more told h k. (h.0, more (after told s r) h.1 k)) steps replies e told
 
 -- ---- the history goes on
 
-did_goes_on : (did : Did) (now : ℕ) (L : History) → IsPrefix L (did_in did now L)
+did_goes_on : (did : PortOutcome) (now : ℕ) (L : History) → IsPrefix L (did_in did now L)
 did_goes_on (dids.Pinned stamp) now L = (pin_event now ∷ [], refl)
 did_goes_on did now L = prefix_self L
 
@@ -72,17 +72,17 @@ commit_goes_on : (reply : Reply) (observed : ObservedActor) (L : History) → Is
 commit_goes_on (replies.At stamp) (writing w) L = changes_go_on w.changes stamp L
 commit_goes_on reply observed L = prefix_self L
 
-act_goes_on : (act : Act) (reply : Reply) (observed : ObservedActor) (L : History) → IsPrefix L (act_in act reply observed L)
+act_goes_on : (act : ActorStep) (reply : Reply) (observed : ObservedActor) (L : History) → IsPrefix L (act_in act reply observed L)
 act_goes_on Request reply observed L = request_goes_on reply observed L
 act_goes_on Commit reply observed L = commit_goes_on reply observed L
 act_goes_on act reply observed L = prefix_self L
 
-keep_goes_on : (keep : Keep) (reply : Reply) (L : History) → IsPrefix L (keep_in keep reply L)
+keep_goes_on : (keep : KeeperStep) (reply : Reply) (L : History) → IsPrefix L (keep_in keep reply L)
 keep_goes_on (keeps.Write change) (replies.At stamp) L = changes_go_on (change ∷ []) stamp L
 keep_goes_on (keeps.Pin now) (replies.At stamp) L = (pin_event now ∷ [], refl)
 keep_goes_on keep reply L = prefix_self L
 
-act_at_goes_on : (number : ℕ) (act : Act) (reply : Reply) (told : Observation) (observed : Option ObservedActor) → IsPrefix told.history (act_at number act reply told observed).history
+act_at_goes_on : (number : ℕ) (act : ActorStep) (reply : Reply) (told : Observation) (observed : Option ObservedActor) → IsPrefix told.history (act_at number act reply told observed).history
 act_at_goes_on number act reply told None = prefix_self told.history
 act_at_goes_on number act reply told (Some observed) = act_goes_on act reply observed told.history
 
@@ -92,12 +92,12 @@ after_goes_on told (BeginIn number now staleness) reply =
     act_at_goes_on number (begin_at (floor_at told.floors number) now staleness) reply told (slice_get told.actors number)
 after_goes_on told (Keeper keep) reply = keep_goes_on keep reply told.history
 
-pub told_goes_on : (told : Observation) (steps : List Step) (replies : List Reply) → IsPrefix told.history (told_by told steps replies).history
+pub told_goes_on : (told : Observation) (steps : List Step) (replies : List Reply) → IsPrefix told.history (observed_from told steps replies).history
 told_goes_on told [] replies = prefix_self told.history
 told_goes_on told (s ∷ steps) [] = prefix_self told.history
 told_goes_on told (s ∷ steps) (r ∷ replies) =
     let now = after told s r in
-    prefix_trans told.history now.history (told_by now steps replies).history (after_goes_on told s r) (told_goes_on now steps replies)
+    prefix_trans told.history now.history (observed_from now steps replies).history (after_goes_on told s r) (told_goes_on now steps replies)
 
 -- ---- what is explained stays explained
 
@@ -155,12 +155,12 @@ module _ (next : Next) (L M : History) (on : IsPrefix L M) where
 
 -- what is explained as it is shown is explained in the whole history
 pub whole : (next : Next) (told : Observation) (steps : List Step) (replies : List Reply) → AreExplained next told steps replies
-    → AreExplainedIn next (told_by told steps replies).history told steps replies
+    → AreExplainedIn next (observed_from told steps replies).history told steps replies
 whole next told [] replies h = tt
 whole next told (s ∷ steps) [] h = tt
 whole next told (s ∷ steps) (r ∷ replies) h =
     let now = after told s r in
-    let end = (told_by now steps replies).history in (
+    let end = (observed_from now steps replies).history in (
       step_later next now.history end (told_goes_on now steps replies) told s r h.0,
       whole next now steps replies h.1,
     )
@@ -175,15 +175,15 @@ module _ (next : Next) (start : Observation) (steps : List Step) (i : ℕ) (repl
   next_steps : take (i + 1) steps ≡ take i steps ++ step ∷ []
   next_steps = ap (λ n. take n steps) (add-one i) ∙ take-suc steps i step within ∙ ap (λ s. take i steps ++ s ∷ []) (sym is)
 
-  pub loop_told : (now new : Observation) → now ≡ told_by start (take i steps) replies → new ≡ after now step reply
-      → new ≡ told_by start (take (i + 1) steps) (replies ++ reply ∷ [])
+  pub loop_told : (now new : Observation) → now ≡ observed_from start (take i steps) replies → new ≡ after now step reply
+      → new ≡ observed_from start (take (i + 1) steps) (replies ++ reply ∷ [])
   loop_told now new h k = rw next_steps (k ∙ ap (λ (t : Observation). after t step reply) h ∙ sym (told_more start (take i steps) replies step reply as_long))
 
-  pub loop_due : (now : Observation) → now ≡ told_by start (take i steps) replies → AreDue start (take i steps) replies → IsDue now step reply
+  pub loop_due : (now : Observation) → now ≡ observed_from start (take i steps) replies → AreDue start (take i steps) replies → IsDue now step reply
       → AreDue start (take (i + 1) steps) (replies ++ reply ∷ [])
   loop_due now h e k = rw next_steps (due_more start (take i steps) replies step reply as_long e (subst (λ (t : Observation). IsDue t step reply) h k))
 
-  pub loop_explained : (now new : Observation) → now ≡ told_by start (take i steps) replies → new ≡ after now step reply → AreExplained next start (take i steps) replies
+  pub loop_explained : (now new : Observation) → now ≡ observed_from start (take i steps) replies → new ≡ after now step reply → AreExplained next start (take i steps) replies
       → IsExplainedIn next new.history now step reply → AreExplained next start (take (i + 1) steps) (replies ++ reply ∷ [])
   loop_explained now new h k e x =
       let now_after : IsExplainedIn next (after now step reply).history now step reply = subst (λ (t : Observation). IsExplainedIn next t.history now step reply) k x in
@@ -200,9 +200,9 @@ steps_done steps i past within =
     ap (λ n. take n steps) at ∙ take-length steps
 
 pub loop_whole : (next : Next) (start : Observation) (steps : List Step) (i : ℕ) (replies : List Reply) (now : Observation) → length steps ≤ i → i ≤ length steps
-    → now ≡ told_by start (take i steps) replies → AreExplained next start (take i steps) replies → AreExplainedIn next now.history start steps replies
+    → now ≡ observed_from start (take i steps) replies → AreExplained next start (take i steps) replies → AreExplainedIn next now.history start steps replies
 loop_whole next start steps i replies now past within is e =
     let all = steps_done steps i past within in
     let e' = subst (λ (ss : List Step). AreExplained next start ss replies) all e in
-    let is' : now ≡ told_by start steps replies = is ∙ ap (λ (ss : List Step). told_by start ss replies) all in
+    let is' : now ≡ observed_from start steps replies = is ∙ ap (λ (ss : List Step). observed_from start ss replies) all in
     rw is' (whole next start steps replies e')

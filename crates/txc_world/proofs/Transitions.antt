@@ -5,22 +5,22 @@ use Rattle.std.specs.Option.{option_map}
 use Rattle.std.proofs.Math.Seq.{take-length, take-suc}
 use Rattle.std.proofs.lemmas.Option.{slice_get-map}
 use Rattle.std.proofs.lemmas.List.{map-set}
-use Rattle.txc_ports.specs.declared.turn.Turn.{Turn}
-use Rattle.txc_ports.specs.declared.turn.Turn.TheVariants as turns
+use Rattle.txc_txn_ports.specs.declared.turn.Turn.{Turn}
+use Rattle.txc_txn_ports.specs.declared.turn.Turn.TheVariants as turns
 use Rattle.txc_app.specs.Eval.{Next}
 use Rattle.txc_world.specs.declared.actor.OpenTxn.{OpenTxn}
 use Rattle.txc_world.specs.declared.actor.Actor.{Actor}
 use Rattle.txc_world.specs.declared.actor.Actor.TheVariants.{Reading}
-use Rattle.txc_ports.specs.declared.error.TxnError.{TxnError}
+use Rattle.txc_txn_ports.specs.declared.error.TxnError.{TxnError}
 use Rattle.txc_world.specs.declared.reply.Reply.{Reply}
 use Rattle.txc_world.specs.declared.settings.WorldSettings.{WorldSettings}
-use Rattle.txc_world.specs.declared.step.Act.{Act}
+use Rattle.txc_world.specs.declared.step.ActorStep.{ActorStep}
 use Rattle.txc_world.specs.declared.step.Step.{Step}
 use Rattle.txc_world.specs.declared.step.Step.TheVariants as steps
 use Rattle.txc_world.specs.Ports.{PortsValue}
 use Rattle.txc_world.specs.ActorValues.{actor_at, actor_value, reading_value, reads, ReadingValue}
 use Rattle.txc_world.specs.Actors.{IsNoted}
-use Rattle.txc_world.specs.Acts.{ActTransition, AreLed, HasStepped, StepTransition}
+use Rattle.txc_world.specs.StepEffects.{ActTransition, AreAfterSteps, HasStepped, StepTransition}
 use Rattle.txc_world.specs.Worlds.{value_of_world, WorldValue}
 use Rattle.txc_world.proofs.Paired.{paired}
 
@@ -42,15 +42,15 @@ module _ {A C : Type 0} (next : Next) (settings : WorldSettings) (old new : Port
   actor_there : slice_get (map actor_at actors) number ≡ Some (actor_value actor)
   actor_there = slice_get-map actor_at actors number ∙ ap (λ (o : Option (Option (Actor A C))). option_map actor_at o) is
 
-  pub world_led : (actors' : List (Option (Actor A C))) (was now : WorldValue) (act : Act) (reply : Reply)
+  pub world_led : (actors' : List (Option (Actor A C))) (was now : WorldValue) (act : ActorStep) (reply : Reply)
       → actors' ≡ slice_set actors number (Some actor')
       → ActTransition next settings.renew_after number act old new (actor_value actor) (actor_value actor') reply
       → value_of_world settings old floors actors ≡ was → value_of_world settings new floors' actors' ≡ now → StepTransition next was (steps.Actor number act) reply now
-  world_led actors' was now act reply put leads shows shows' =
+  world_led actors' was now act reply put transition shows shows' =
       let led : StepTransition next (value_of_world settings old floors actors) (steps.Actor number act) reply (value_of_world settings new floors' actors') = rw actor_there (record {
         actor = actor_value actor';
         others = rw put (map-set actor_at actors number (Some actor'));
-        leads = leads;
+        transition = transition;
       })
       in subst (λ (w : WorldValue). StepTransition next was (steps.Actor number act) reply w) shows'
       (subst (λ (w : WorldValue). StepTransition next w (steps.Actor number act) reply (value_of_world settings new floors' actors')) shows led)
@@ -66,10 +66,10 @@ seen_there actors number o r is at =
 -- ---- one more step and its reply
 
 pub led_more : (next : Next) (start now new : WorldValue) (steps : List Step) (replies : List Reply) (step : Step) (reply : Reply)
-    → length replies ≡ length steps → AreLed next start steps replies now → HasStepped next now step reply new
-    → AreLed next start (steps ++ step ∷ []) (replies ++ reply ∷ []) new
+    → length replies ≡ length steps → AreAfterSteps next start steps replies now → HasStepped next now step reply new
+    → AreAfterSteps next start (steps ++ step ∷ []) (replies ++ reply ∷ []) new
 led_more next start now new steps replies step reply e = paired
-    (λ (ss : List Step) (rs : List Reply). (start : WorldValue) → AreLed next start ss rs now → HasStepped next now step reply new → AreLed next start (ss ++ step ∷ []) (rs ++ reply ∷ []) new)
+    (λ (ss : List Step) (rs : List Reply). (start : WorldValue) → AreAfterSteps next start ss rs now → HasStepped next now step reply new → AreAfterSteps next start (ss ++ step ∷ []) (rs ++ reply ∷ []) new)
     (λ start h k. (new, subst (λ (w : WorldValue). HasStepped next w step reply new) h k, refl))
     (λ s ss r rs more start h k. (h.0, h.1, more h.0 h.2 k)) steps replies e start
 
@@ -77,8 +77,8 @@ led_more next start now new steps replies step reply e = paired
 
 module _ (next : Next) (start : WorldValue) (steps : List Step) (i : ℕ) (replies : List Reply) where
   pub loop_led : (step : Step) (reply : Reply) → i < length steps → step ≡ get_or steps i step → length replies ≡ i
-      → (now new : WorldValue) → AreLed next start (take i steps) replies now → HasStepped next now step reply new
-      → AreLed next start (take (i + 1) steps) (replies ++ reply ∷ []) new
+      → (now new : WorldValue) → AreAfterSteps next start (take i steps) replies now → HasStepped next now step reply new
+      → AreAfterSteps next start (take (i + 1) steps) (replies ++ reply ∷ []) new
   loop_led step reply within is even now new h k =
       let less : i ≤ length steps = omega (arith, within) in
       let long = length-take-le i steps less in
@@ -86,9 +86,9 @@ module _ (next : Next) (start : WorldValue) (steps : List Step) (i : ℕ) (repli
       ap (λ n. take n steps) (add-one i) ∙ take-suc steps i step within ∙ ap (λ s. take i steps ++ s ∷ []) (sym is) in
       rw one (led_more next start now new (take i steps) replies step reply (even ∙ sym long) h k)
 
-  pub loop_led_end : length steps ≤ i → i ≤ length steps → (now : WorldValue) → AreLed next start (take i steps) replies now
-      → AreLed next start steps replies now
+  pub loop_led_end : length steps ≤ i → i ≤ length steps → (now : WorldValue) → AreAfterSteps next start (take i steps) replies now
+      → AreAfterSteps next start steps replies now
   loop_led_end past within now h =
       let at : i ≡ length steps = omega (arith, past, within) in
       let all : take i steps ≡ steps = ap (λ n. take n steps) at ∙ take-length steps in
-      subst (λ (ss : List Step). AreLed next start ss replies now) all h
+      subst (λ (ss : List Step). AreAfterSteps next start ss replies now) all h

@@ -5,20 +5,20 @@ use Rattle.std.specs.Option.{ForSome}
 use Rattle.txc_tags.specs.Keys.{Call}
 use Rattle.txc_cushion.specs.declared.pin.Pin.{Pin}
 use Rattle.txc_db.specs.History.{History}
-use Rattle.txc_db.specs.Seen.{FrontValue}
-use Rattle.txc_ports.specs.declared.request.PortRequest.{PortRequest}
-use Rattle.txc_ports.specs.declared.request.PortRequest.TheVariants as requests
-use Rattle.txc_ports.specs.declared.error.TxnError.{TxnError}
-use Rattle.txc_ports.specs.declared.turn.Turn.TheVariants as turns
-use Rattle.txc_ports.specs.declared.bounds.Bounds.{Bounds}
-use Rattle.txc_ports.specs.Turns.{IsAsk, PortTurn}
-use Rattle.txc_ports.specs.declared.recorded.Recorded.{Recorded}
-use Rattle.txc_txn.specs.Core.{open_call, recorded_after, CoreAsks, CoreValue, IsNoValue, IsOneOf, IsTurn}
+use Rattle.txc_db.specs.FrontsAndFeeds.{FrontValue}
+use Rattle.txc_txn_ports.specs.declared.request.PortRequest.{PortRequest}
+use Rattle.txc_txn_ports.specs.declared.request.PortRequest.TheVariants as requests
+use Rattle.txc_txn_ports.specs.declared.error.TxnError.{TxnError}
+use Rattle.txc_txn_ports.specs.declared.turn.Turn.TheVariants as turns
+use Rattle.txc_txn_ports.specs.declared.bounds.Bounds.{Bounds}
+use Rattle.txc_txn_ports.specs.Turns.{IsAsk, PortTurn}
+use Rattle.txc_txn_ports.specs.declared.recorded.Recorded.{Recorded}
+use Rattle.txc_txn.specs.TxnCore.{open_call, recorded_after, CoreAsks, CoreValue, IsNoValue, IsOneOf, IsTurn}
 use Rattle.txc_world.specs.Parts.{IsPartOf}
 use Rattle.txc_world.specs.Ports.{PortsValue, whole_of, KeepsRow}
-use Rattle.txc_world.specs.Asks.{IsAskedAt}
-use Rattle.txc_world.specs.declared.did.Did.{Did}
-use Rattle.txc_world.specs.declared.did.Did.TheVariants as dids
+use Rattle.txc_world.specs.PortRequests.{IsAskedAt}
+use Rattle.txc_world.specs.declared.port_outcome.PortOutcome.{PortOutcome}
+use Rattle.txc_world.specs.declared.port_outcome.PortOutcome.TheVariants as dids
 use Rattle.txc_world.specs.declared.actor.OpenCall.{OpenCall}
 use Rattle.txc_world.specs.ActorValues.{opened}
 use Rattle.txc_world.specs.Observation.{after_end, did_in, reading, with_answered_call, Reading}
@@ -44,7 +44,7 @@ seen_next old new before now shown keeps was part one =
     one
 
 -- a hit that holds no member is no pin either
-pub counted_in : (members : List Pin) (did : Did) (now : ℕ) (L : History) → did_in (counted members did) now L ≡ did_in did now L
+pub counted_in : (members : List Pin) (did : PortOutcome) (now : ℕ) (L : History) → did_in (counted members did) now L ≡ did_in did now L
 counted_in members (dids.Hit reach) now L = go (holds_any reach members)
   where
     go : (b : Bool) → did_in (if b then dids.Hit reach else dids.Miss) now L ≡ L

@@ -12,21 +12,21 @@ use Rattle.txc_validity.specs.declared.answer.Found.{Found}
 use Rattle.txc_db.specs.declared.error.DbError.{DbError}
 use Rattle.txc_db.specs.History.{History, state_at}
 use Rattle.txc_app.specs.Eval.{Next}
-use Rattle.txc_registry.specs.Objects.{Objects}
-use Rattle.txc_ports.specs.declared.error.TxnError.{TxnError}
-use Rattle.txc_ports.specs.declared.turn.Turn.TheVariants as turns
-use Rattle.txc_ports.specs.Turns.{IsAsk}
-use Rattle.txc_rw.specs.declared.given.Given.{Given}
-use Rattle.txc_rw.specs.declared.given.Given.TheVariants as given
-use Rattle.txc_rw.specs.Core.{answers_after, queried_after, IsRightReply, IsRw, IsRwIdle, IsRwTurn, QueryTurn, RwHolds, RwValue}
-use Rattle.txc_rw.specs.Transitions.{RowsTransition}
-use Rattle.txc_ports.specs.Refusals.{refused_request}
-use Rattle.txc_world.specs.Writing.{with_rows, FindTransitionRw, IsRead}
+use Rattle.txc_call_registry.specs.Objects.{Objects}
+use Rattle.txc_txn_ports.specs.declared.error.TxnError.{TxnError}
+use Rattle.txc_txn_ports.specs.declared.turn.Turn.TheVariants as turns
+use Rattle.txc_txn_ports.specs.Turns.{IsAsk}
+use Rattle.txc_txn_rw.specs.declared.given.Given.{Given}
+use Rattle.txc_txn_rw.specs.declared.given.Given.TheVariants as given
+use Rattle.txc_txn_rw.specs.RwCore.{answers_after, queried_after, IsRightReply, IsRw, IsRwIdle, IsRwTurn, QueryTurn, RwHolds, RwValue}
+use Rattle.txc_txn_rw.specs.Transitions.{RowsTransition}
+use Rattle.txc_txn_ports.specs.Refusals.{refused_request}
+use Rattle.txc_world.specs.WriterStep.{with_rows, FindTransitionRw, IsRead}
 use Rattle.txc_world.specs.declared.actor.OpenCall.{OpenCall}
 use Rattle.txc_world.specs.ActorValues.{opened}
 use Rattle.txc_world.specs.Observation.{given_of, writing, writing_on, Writing}
 use Rattle.txc_world.specs.Ports.{PortsValue}
-use Rattle.txc_world.specs.Asks.{QueryTransition}
+use Rattle.txc_world.specs.PortRequests.{QueryTransition}
 use Rattle.txc_world.specs.Actors.{told_answers, told_by_turn, HasRwCall, IsNoted}
 
 pub writing_same : (b b' : ℕ) (k k' : Option Call) (a a' : List Given) (c c' : List Change) → b ≡ b' → k ≡ k' → a ≡ a' → c ≡ c'
@@ -57,13 +57,13 @@ answers_at_start told now key key' turn same is =
 -- the database's answer at the base is right
 pub right_answer : (p : PortsValue) (c : RwValue) (query : Query) (base : ℕ) (found : Result Found DbError) → QueryTransition query base p found → base ≡ c.base
     → c.reading ≡ Some query → IsRightReply p.database.history c found
-right_answer p c query base (Ok found) leads at asked = λ q is.
+right_answer p c query base (Ok found) transition at asked = λ q is.
     let same : query ≡ q = (let both : Some query ≡ Some q = sym asked ∙ is in cc both) in
     record {
-      rows = leads.0.answer.rows ∙ (ap (λ (n : ℕ). answer query (state_at p.database.history n)) at ∙ ap (λ (x : Query). answer x (state_at p.database.history c.base)) same);
-      tag = leads.0.tag ∙ ap (λ (x : Query). query_tag x ∷ []) same;
+      rows = transition.0.answer.rows ∙ (ap (λ (n : ℕ). answer query (state_at p.database.history n)) at ∙ ap (λ (x : Query). answer x (state_at p.database.history c.base)) same);
+      tag = transition.0.tag ∙ ap (λ (x : Query). query_tag x ∷ []) same;
     }
-right_answer p c query base (Err error) leads at asked = tt
+right_answer p c query base (Err error) transition at asked = tt
 
 -- ---- changes
 
@@ -83,11 +83,11 @@ still_open c c' changes call none is h =
 -- ---- what comes of each step
 
 pub answered_at : (query : Query) (stamp base : ℕ) (p : PortsValue) (found : Result Found DbError) → stamp ≡ base → QueryTransition query stamp p found → QueryTransition query base p found
-answered_at query stamp base p found same leads = subst (λ (n : ℕ). QueryTransition query n p found) same leads
+answered_at query stamp base p found same transition = subst (λ (n : ℕ). QueryTransition query n p found) same transition
 
 pub answered_rows : (query : Query) (base : ℕ) (p : PortsValue) (found : Result Found DbError) (f : Found) → QueryTransition query base p found → found ≡ Ok f
     → f.rows.items ≡ answer query (state_at p.database.history base)
-answered_rows query base p found f leads is = (subst (λ (r : Result Found DbError). QueryTransition query base p r) is leads).0.answer.rows
+answered_rows query base p found f transition is = (subst (λ (r : Result Found DbError). QueryTransition query base p r) is transition).0.answer.rows
 
 pub queried_so : (queried : List Query) (reading : Option Query) (q : Query) (found : Result Found DbError) (now : List Query) → reading ≡ Some q
     → now ≡ queried_after queried reading found → now ≡ queried_after queried (Some q) found
@@ -99,10 +99,10 @@ queried_so queried reading q found now is h = subst (λ (r : Option Query). now 
 module _ (query : Query) (p : PortsValue) (old asking new : RwValue) (same : asking ≡ record old { reading = Some query }) (none : old.reading ≡ None) where
   pub own_leads : (found : Result Found DbError) (result : Result (Vec RowValue Global) TxnError) → QueryTransition query old.base p found → RowsTransition asking query found new result
       → FindTransitionRw query old.base p result
-  own_leads (Ok f) (Ok rows) leads on = (f, leads, on.0)
-  own_leads (Ok f) (Err e) leads on = inl on.0
-  own_leads (Err cause) (Ok rows) leads on = cc on.0
-  own_leads (Err cause) (Err e) leads on = let is : e ≡ refused_request cause = cc on.0 in inr (cause, leads, is)
+  own_leads (Ok f) (Ok rows) transition on = (f, transition, on.0)
+  own_leads (Ok f) (Err e) transition on = inl on.0
+  own_leads (Err cause) (Ok rows) transition on = cc on.0
+  own_leads (Err cause) (Err e) transition on = let is : e ≡ refused_request cause = cc on.0 in inr (cause, transition, is)
 
   pub own_read : (found : Result Found DbError) (result : Result (Vec RowValue Global) TxnError) → RowsTransition asking query found new result → IsRead query old.queried new.queried result
   own_read (Ok f) (Ok rows) on = ap (λ (c : RwValue). c.queried) on.1 ∙ ap (λ (c : RwValue). c.queried ++ query ∷ []) same

@@ -2,12 +2,12 @@
 use Rattle.std.specs.Prelude.{ℕ, List, [], Option, None, Some}
 use Rattle.std.specs.Option.{option_map}
 use Rattle.txc_tags.specs.Keys.{Call}
-use Rattle.txc_registry.specs.Objects.{Objects}
+use Rattle.txc_call_registry.specs.Objects.{Objects}
 use Rattle.txc_rows.specs.declared.query.Query.{Query}
-use Rattle.txc_ports.specs.declared.request.PortRequest.{PortRequest}
-use Rattle.txc_ports.specs.declared.turn.Turn.{Turn}
-use Rattle.txc_txn.specs.Kept.{TxnValue}
-use Rattle.txc_rw.specs.Core.{RwValue}
+use Rattle.txc_txn_ports.specs.declared.request.PortRequest.{PortRequest}
+use Rattle.txc_txn_ports.specs.declared.turn.Turn.{Turn}
+use Rattle.txc_txn.specs.RunningTxn.{TxnValue}
+use Rattle.txc_txn_rw.specs.RwCore.{RwValue}
 use Rattle.txc_world.specs.declared.actor.OpenCall.{OpenCall}
 use Rattle.txc_world.specs.declared.actor.OpenTxn.{OpenTxn}
 use Rattle.txc_world.specs.declared.actor.OpenRw.{OpenRw}

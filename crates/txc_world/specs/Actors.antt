@@ -8,30 +8,30 @@ use Rattle.txc_tags.specs.Keys.{Call}
 use Rattle.txc_rows.specs.declared.query.Query.{Query}
 use Rattle.txc_rows.specs.States.{RowValue}
 use Rattle.txc_db.specs.History.{History}
-use Rattle.txc_db.specs.Seen.{FrontValue}
+use Rattle.txc_db.specs.FrontsAndFeeds.{FrontValue}
 use Rattle.txc_cushion.specs.declared.pin.Pin.{Pin}
-use Rattle.txc_registry.specs.Objects.{numbers_of, AllIdle, Objects}
-use Rattle.txc_ports.specs.declared.bounds.Bounds.{Bounds}
+use Rattle.txc_call_registry.specs.Objects.{numbers_of, AllIdle, Objects}
+use Rattle.txc_txn_ports.specs.declared.bounds.Bounds.{Bounds}
 use Rattle.txc_cushion.specs.declared.error.UnknownPin.{UnknownPin}
 use Rattle.txc_app.specs.Eval.{Next}
-use Rattle.txc_ports.specs.declared.error.TxnError.{TxnError}
-use Rattle.txc_ports.specs.declared.reply.PortReply.{PortReply}
-use Rattle.txc_ports.specs.declared.request.PortRequest.{PortRequest}
+use Rattle.txc_txn_ports.specs.declared.error.TxnError.{TxnError}
+use Rattle.txc_txn_ports.specs.declared.reply.PortReply.{PortReply}
+use Rattle.txc_txn_ports.specs.declared.request.PortRequest.{PortRequest}
 use Rattle.txc_cushion.specs.declared.pins.Pins.{Pins}
 use Rattle.txc_txn.specs.Transitions.{StartTransition}
-use Rattle.txc_txn.specs.Kept.{HasGoneOn, TxnValue}
-use Rattle.txc_ports.specs.declared.turn.Turn.{Turn}
-use Rattle.txc_ports.specs.declared.turn.Turn.TheVariants as turns
-use Rattle.txc_ports.specs.Turns.{PortTurn}
+use Rattle.txc_txn.specs.RunningTxn.{HasGoneOn, TxnValue}
+use Rattle.txc_txn_ports.specs.declared.turn.Turn.{Turn}
+use Rattle.txc_txn_ports.specs.declared.turn.Turn.TheVariants as turns
+use Rattle.txc_txn_ports.specs.Turns.{PortTurn}
 use Rattle.txc_pinset.specs.Members.{is_held_by}
-use Rattle.txc_world.specs.declared.did.Did.{Did}
-use Rattle.txc_world.specs.declared.did.Did.TheVariants.{Hit, Miss}
+use Rattle.txc_world.specs.declared.port_outcome.PortOutcome.{PortOutcome}
+use Rattle.txc_world.specs.declared.port_outcome.PortOutcome.TheVariants.{Hit, Miss}
 use Rattle.txc_txn.specs.declared.pinning.PinStep.TheVariants.{Dropping}
-use Rattle.txc_txn.specs.Core.{CoreValue, begun_core, open_call, IsPinningAt, IsIdle, IsNoValue, IsTurn}
-use Rattle.txc_rw.specs.declared.given.Given.{Given}
-use Rattle.txc_rw.specs.Core.{answers_after, QueryTurn, RwHolds, RwValue}
-use Rattle.txc_rw.specs.Core.{IsRw, IsRwIdle, IsRwTurn}
-use Rattle.txc_ports.specs.Turns.{IsAsk}
+use Rattle.txc_txn.specs.TxnCore.{CoreValue, begun_core, open_call, IsPinningAt, IsIdle, IsNoValue, IsTurn}
+use Rattle.txc_txn_rw.specs.declared.given.Given.{Given}
+use Rattle.txc_txn_rw.specs.RwCore.{answers_after, QueryTurn, RwHolds, RwValue}
+use Rattle.txc_txn_rw.specs.RwCore.{IsRw, IsRwIdle, IsRwTurn}
+use Rattle.txc_txn_ports.specs.Turns.{IsAsk}
 use Rattle.txc_world.specs.declared.actor.OpenCall.{OpenCall}
 use Rattle.txc_world.specs.declared.actor.OpenTxn.{OpenTxn}
 use Rattle.txc_world.specs.declared.actor.OpenRw.{OpenRw}
@@ -43,11 +43,11 @@ use Rattle.txc_world.specs.declared.reply.Reply.TheVariants.{Asked, Begun, Ended
 use Rattle.txc_world.specs.declared.reply.Refusal.TheVariants.{Memory, Transaction}
 use Rattle.txc_world.specs.Parts.{IsPartOf}
 use Rattle.txc_world.specs.Ports.{PortsValue}
-use Rattle.txc_ports.specs.Asking.{TurnAddsSuch, IsReplyTo}
-use Rattle.txc_world.specs.Asks.{DoesTell, FreshTransition, PortRequestTransition}
+use Rattle.txc_txn_ports.specs.PortRequests.{TurnAddsSuch, IsReplyTo}
+use Rattle.txc_world.specs.PortRequests.{DoesTell, FreshTransition, PortRequestTransition}
 use Rattle.txc_world.specs.ActorValues.{call_at_turn, ActorValue, CallValue, reads, resting, leaves}
-use Rattle.txc_world.specs.Keeping.{GiveBackTransition}
-use Rattle.txc_world.specs.Losing.{IfLost, IfTurnLost}
+use Rattle.txc_world.specs.KeeperAtPorts.{GiveBackTransition}
+use Rattle.txc_world.specs.LostSnapshot.{IfLost, IfTurnLost}
 use Rattle.txc_world.specs.Observation.{ObservedActor, idle, reading, writing, leaving}
 
 -- a pin to be added is of the whole history
@@ -140,7 +140,7 @@ abbrev pub holds_any : Interval → List Pin → Bool
 holds_any reach members = list_any (is_held_by reach) members
 
 -- the action of a node, with a hit in whose reach no member is as a miss
-abbrev pub counted : List Pin → Did → Did
+abbrev pub counted : List Pin → PortOutcome → PortOutcome
 counted members (Hit reach) = if holds_any reach members then Hit reach else Miss
 counted members did = did
 
@@ -167,18 +167,18 @@ pub record HasStarted (key : Call) (before : TxnValue) (actor : ActorValue) : Ty
   pub txn : TxnValue
   pub turn : PortTurn
   pub actor_is : actor ≡ reads (record { txn = txn; call = Some (call_at_turn key turn) })
-  pub leads : StartTransition before.core before.objects key txn.core txn.objects turn
+  pub transition : StartTransition before.core before.objects key txn.core txn.objects turn
   pub same : txn.core ≡ record before.core { call = txn.core.call; pinning = txn.core.pinning }
 
 -- One request of a transaction, as a step of the pass: the port that was asked did this, and the transaction
 -- went on with its reply.
 pub record HasAsked (next : Next) (pass : ℕ) (request : PortRequest) (old new : PortsValue)
-    (before after : TxnValue) (did : Did) (turn : PortTurn) : Type 0 where
+    (before after : TxnValue) (did : PortOutcome) (turn : PortTurn) : Type 0 where
   pub reply : PortReply
-  pub port : Did
+  pub port : PortOutcome
   pub right : IsReplyTo next request reply
   pub tells : DoesTell reply port
-  pub leads : PortRequestTransition pass before.core.seen request old new reply
+  pub transition : PortRequestTransition pass before.core.seen request old new reply
   pub counts : did ≡ counted before.core.pins.members port
   pub went : HasGoneOn next before reply after turn
 
@@ -187,7 +187,7 @@ pub record HasRequested (next : Next) (pass : ℕ) (key : Call) (request : PortR
     (before : TxnValue) (actor : ActorValue) (reply : Reply) : Type 0 where
   pub txn : TxnValue
   pub call : Option (CallValue PortRequest)
-  pub did : Did
+  pub did : PortOutcome
   pub end : Option (Result (List ℕ) TxnError)
   pub turn : PortTurn
   pub actor_is : actor ≡ reads (record { txn = txn; call = call })

@@ -3,7 +3,7 @@ use Rattle.std.specs.Prelude.{ℕ, List, ◌++◌, codes}
 use Rattle.std.specs.Fmt.{decimal}
 use Rattle.txc_db.specs.Codes.{database_code}
 use Rattle.txc_cushion.specs.Codes.{add_code}
-use Rattle.txc_ports.specs.Codes.{transaction_code}
+use Rattle.txc_txn_ports.specs.Codes.{transaction_code}
 use Rattle.txc_shared.specs.Codes.{node_code}
 use Rattle.txc_world.specs.declared.reply.Refusal.{Refusal}
 use Rattle.txc_world.specs.declared.reply.Refusal.TheVariants as refusals

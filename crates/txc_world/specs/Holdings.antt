@@ -8,14 +8,14 @@ use Rattle.txc_cushion.specs.Entries.{pins_of, stamps_of, times, users_of}
 use Rattle.txc_cushion.specs.Cushion.{IsCushion}
 use Rattle.txc_cushion.specs.Refusals.{HaveUsers}
 use Rattle.txc_cushion.specs.Laws.{AddCountsOnePin, FreshCountsUsers, GiveBackCountsUsers, PinsEachStampOnce, RetireCountsTheUnused}
-use Rattle.txc_ports.specs.declared.request.PortRequest.{PortRequest}
-use Rattle.txc_ports.specs.declared.request.PortRequest.TheVariants as requests
-use Rattle.txc_ports.specs.declared.reply.PortReply.{PortReply}
-use Rattle.txc_txn.specs.Core.{left_after, left_pin, taken_after, CoreValue}
+use Rattle.txc_txn_ports.specs.declared.request.PortRequest.{PortRequest}
+use Rattle.txc_txn_ports.specs.declared.request.PortRequest.TheVariants as requests
+use Rattle.txc_txn_ports.specs.declared.reply.PortReply.{PortReply}
+use Rattle.txc_txn.specs.TxnCore.{left_after, left_pin, taken_after, CoreValue}
 use Rattle.txc_world.specs.declared.actor.Actor.{Actor}
 use Rattle.txc_world.specs.declared.actor.Actor.TheVariants.{Idle, Reading, Writing, Leaving}
 use Rattle.txc_world.specs.declared.reply.Reply.{Reply}
-use Rattle.txc_world.specs.Losing.{IfPortLoses, IfReplyLost}
+use Rattle.txc_world.specs.LostSnapshot.{IfPortLoses, IfReplyLost}
 use Rattle.txc_world.specs.Ports.{PortsValue}
 
 -- the account of an actor: the stamps of the pins that were issued to it or added by it, of each of which it is
@@ -88,7 +88,7 @@ GivesBack old new pins = HaveUsers old.cushion.entries (map (λ p. p.stamp) pins
 
 -- No other actor has less after it: each stamp got at least as many holds as the actor and the pincushion have
 -- more, and at least as many users as the actor took more.
-pub record IsFair (old new : PortsValue) (before after : Account) : Type 0 where
+pub record TakesOnlyItsOwn (old new : PortsValue) (before after : Account) : Type 0 where
   pub holds : (stamp : ℕ)
       → times stamp after.own + times stamp (stamps_of new.cushion.entries) + times stamp old.database.holds
       ≤ times stamp before.own + times stamp (stamps_of old.cushion.entries) + times stamp new.database.holds
@@ -119,13 +119,13 @@ pub record HasLost (p : PortsValue) (account : Account) : Type 0 where
 -- one request of a transaction: no other actor loses by it, and it fails for a lost snapshot only if that is
 -- held no more
 pub record AskCounts (request : PortRequest) (old new : PortsValue) (reply : PortReply) : Type 0 where
-  pub fair : IsFair old new (spent request) (gained reply)
+  pub own_only : TakesOnlyItsOwn old new (spent request) (gained reply)
   pub gone : LosesOnlyUnheld request old reply
 
 -- one step of an actor: no other actor loses by it, and it fails for a lost snapshot only if that is one of its
 -- own
 pub record ActCounts (old new : PortsValue) (before after : Account) (reply : Reply) : Type 0 where
-  pub fair : IsFair old new before after
+  pub own_only : TakesOnlyItsOwn old new before after
   pub loss : IfReplyLost reply (HasLost old before)
 
 -- ---- reasons

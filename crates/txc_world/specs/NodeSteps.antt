@@ -1,9 +1,9 @@
 -- The effect of a step at a node.
 use Rattle.std.specs.Prelude.{◌≡◌, ◌⊎◌, ℕ, Result, Ok, Err, Option, Some, None, false}
 use Rattle.txc_tags.specs.Keys.{Call}
-use Rattle.txc_db.specs.Seen.{FrontValue}
+use Rattle.txc_db.specs.FrontsAndFeeds.{FrontValue}
 use Rattle.txc_node.specs.declared.entry.Entry.{Entry}
-use Rattle.txc_node.specs.declared.hit.Shown.{Shown}
+use Rattle.txc_node.specs.declared.hit.HitValue.{HitValue}
 use Rattle.txc_node.specs.declared.op.Op.TheVariants.{Insert, Lookup, Sweep}
 use Rattle.txc_node.specs.Cache.{lookup_answer, outcome, swept_count}
 use Rattle.txc_shared.specs.declared.advanced.Advanced.{Advanced}
@@ -19,7 +19,7 @@ HasRefusedLookup old lo hi new = (e : NodeError) × IsLookupRefused old lo hi e 
 
 -- Of a lookup: the node made the step, and returns its entry of the call, or has none; or it failed, which is a
 -- miss.
-abbrev pub LookupTransition : ℕ → Call → ℕ → ℕ → NodeValue → NodeValue → Option Shown → Type 0
+abbrev pub LookupTransition : ℕ → Call → ℕ → ℕ → NodeValue → NodeValue → Option HitValue → Type 0
 LookupTransition pass key lo hi old new (Some shown) = (new ≡ after_call old pass (Lookup key lo hi))
     × (lookup_answer old.cache key lo hi ≡ Some shown)
 LookupTransition pass key lo hi old new None =

@@ -6,26 +6,26 @@ use Rattle.txc_db.specs.History.{History, commit_event, pin_event, state_at}
 use Rattle.txc_db.specs.DatabaseValue.{is_held, without}
 use Rattle.txc_cushion.specs.declared.pin.Pin.{Pin}
 use Rattle.txc_app.specs.Eval.{Next}
-use Rattle.txc_ports.specs.declared.bounds.Bounds.{Bounds}
-use Rattle.txc_ports.specs.declared.error.TxnError.{TxnError}
-use Rattle.txc_ports.specs.declared.recorded.Recorded.{Recorded}
-use Rattle.txc_txn.specs.Core.{Explains}
+use Rattle.txc_txn_ports.specs.declared.bounds.Bounds.{Bounds}
+use Rattle.txc_txn_ports.specs.declared.error.TxnError.{TxnError}
+use Rattle.txc_txn_ports.specs.declared.recorded.Recorded.{Recorded}
+use Rattle.txc_txn.specs.TxnCore.{Explains}
 use Rattle.txc_txn.specs.Sessions.{floor_after}
-use Rattle.txc_rw.specs.declared.given.Given.{Given}
-use Rattle.txc_rw.specs.declared.given.Given.TheVariants as given
-use Rattle.txc_rw.specs.declared.rw_core.TheConstants.{MAX_CHANGES}
-use Rattle.txc_rw.specs.Answers.{AreRightIn}
-use Rattle.txc_rw.specs.Core.{IsWriteRefused}
-use Rattle.txc_rw.specs.Outcomes.{HasChanged, HasChangedNothing}
+use Rattle.txc_txn_rw.specs.declared.given.Given.{Given}
+use Rattle.txc_txn_rw.specs.declared.given.Given.TheVariants as given
+use Rattle.txc_txn_rw.specs.declared.rw_core.TheConstants.{MAX_CHANGES}
+use Rattle.txc_txn_rw.specs.Answers.{AreRightIn}
+use Rattle.txc_txn_rw.specs.RwCore.{IsWriteRefused}
+use Rattle.txc_txn_rw.specs.Outcomes.{HasChanged, HasChangedNothing}
 use Rattle.txc_world.specs.declared.settings.WorldSettings.{WorldSettings}
-use Rattle.txc_world.specs.declared.step.Act.{Act}
-use Rattle.txc_world.specs.declared.step.Act.TheVariants.{BeginRo, BeginRw, Start, Request, Ask, Write, Commit, Abort}
-use Rattle.txc_world.specs.declared.step.Keep.{Keep}
-use Rattle.txc_world.specs.declared.step.Keep.TheVariants as keeps
+use Rattle.txc_world.specs.declared.step.ActorStep.{ActorStep}
+use Rattle.txc_world.specs.declared.step.ActorStep.TheVariants.{BeginRo, BeginRw, Start, Request, Ask, Write, Commit, Abort}
+use Rattle.txc_world.specs.declared.step.KeeperStep.{KeeperStep}
+use Rattle.txc_world.specs.declared.step.KeeperStep.TheVariants as keeps
 use Rattle.txc_world.specs.declared.step.Step.{Step}
 use Rattle.txc_world.specs.declared.step.Step.TheVariants.{Actor, BeginIn, Keeper}
-use Rattle.txc_world.specs.declared.did.Did.{Did}
-use Rattle.txc_world.specs.declared.did.Did.TheVariants.{Pinned}
+use Rattle.txc_world.specs.declared.port_outcome.PortOutcome.{PortOutcome}
+use Rattle.txc_world.specs.declared.port_outcome.PortOutcome.TheVariants.{Pinned}
 use Rattle.txc_world.specs.declared.reply.Reply.{Reply}
 use Rattle.txc_world.specs.declared.reply.Reply.TheVariants as replies
 use Rattle.txc_world.specs.declared.reply.Reply.TheVariants.{Begun, Based, Started, Asked, Ended, Answered, Kept, Receipt, Aborted, At, Refused}
@@ -95,7 +95,7 @@ given_up None = idle
 given_up (Some stamp) = leaving stamp
 
 -- the actor's open transaction after this act and its reply
-abbrev pub observed_after : Act → Reply → ObservedActor → ObservedActor
+abbrev pub observed_after : ActorStep → Reply → ObservedActor → ObservedActor
 observed_after (BeginRo bounds) Begun observed = reading (record { bounds = bounds; call = None; answers = [] })
 observed_after BeginRw (Based base) observed =
     writing (record { base = base; call = None; answers = []; changes = [] })
@@ -115,7 +115,7 @@ observed_after Abort (Aborted left) observed = given_up left
 observed_after act reply observed = observed
 
 -- a pin whose reply has a stamp is in the history
-abbrev pub did_in : Did → ℕ → History → History
+abbrev pub did_in : PortOutcome → ℕ → History → History
 did_in (Pinned stamp) now L = L ++ pin_event now ∷ []
 did_in did now L = L
 
@@ -124,20 +124,20 @@ abbrev pub commit_in : List Change → ℕ → History → History
 commit_in changes stamp L =
     if nat_lt (length L) stamp then L ++ commit_event (state_at L (length L)) changes ∷ [] else L
 
-abbrev pub act_in : Act → Reply → ObservedActor → History → History
+abbrev pub act_in : ActorStep → Reply → ObservedActor → History → History
 act_in Request (Asked did end) (reading r) L = did_in did r.bounds.now L
 act_in Commit (At stamp) (writing w) L = commit_in w.changes stamp L
 act_in act reply observed L = L
 
 -- ---- the reports of a step of the keeper
 
-abbrev pub keep_in : Keep → Reply → History → History
+abbrev pub keep_in : KeeperStep → Reply → History → History
 keep_in (keeps.Write change) (At stamp) L = commit_in (change ∷ []) stamp L
 keep_in (keeps.Pin now) (At stamp) L = L ++ pin_event now ∷ []
 keep_in keep reply L = L
 
 -- it has one more pin to add, or has spent one, at a pincushion that may have failed
-abbrev pub spare_after : Keep → Reply → List ℕ → List ℕ
+abbrev pub spare_after : KeeperStep → Reply → List ℕ → List ℕ
 spare_after (keeps.Pin now) (At stamp) spare = spare ++ stamp ∷ []
 spare_after (keeps.Add stamp) replies.Added spare = without stamp spare
 spare_after (keeps.Add stamp) (Refused (refusals.Pincushion error)) spare = without stamp spare
@@ -156,13 +156,13 @@ floor_by (At stamp) floor = max floor stamp
 floor_by reply floor = floor
 
 -- a transaction that begins in its session has the session's floor among its bounds
-abbrev pub begin_at : ℕ → ℕ → ℕ → Act
+abbrev pub begin_at : ℕ → ℕ → ℕ → ActorStep
 begin_at floor now staleness = BeginRo (record { now = now; staleness = staleness; at_least = floor })
 
 -- ---- a whole list
 
 -- the actor's step reports nothing if there is no such actor
-abbrev pub act_at : ℕ → Act → Reply → Observation → Option ObservedActor → Observation
+abbrev pub act_at : ℕ → ActorStep → Reply → Observation → Option ObservedActor → Observation
 act_at number act reply told None = told
 act_at number act reply told (Some observed) = record told {
   history = act_in act reply observed told.history;
@@ -181,10 +181,10 @@ after told (Keeper keep) reply = record told {
 }
 
 -- the observation after a list of steps and their replies, one after another
-abbrev pub told_by : Observation → List Step → List Reply → Observation
-told_by told [] replies = told
-told_by told (step ∷ steps) [] = told
-told_by told (step ∷ steps) (reply ∷ replies) = told_by (after told step reply) steps replies
+abbrev pub observed_from : Observation → List Step → List Reply → Observation
+observed_from told [] replies = told
+observed_from told (step ∷ steps) [] = told
+observed_from told (step ∷ steps) (reply ∷ replies) = observed_from (after told step reply) steps replies
 
 -- ---- receipts and commits
 
@@ -261,7 +261,7 @@ due_by_call (Some key) with_call without_call = with_call
 due_by_call None with_call without_call = without_call
 
 -- the refusal of the world itself that is due to an actor, if one is
-abbrev pub due_refusal : Act → ObservedActor → Option Refusal
+abbrev pub due_refusal : ActorStep → ObservedActor → Option Refusal
 due_refusal (BeginRo bounds) idle = None
 due_refusal (BeginRo bounds) observed = Some AlreadyOpen
 due_refusal BeginRw idle = None
@@ -283,7 +283,7 @@ due_refusal Abort observed = None
 
 -- The reply to an actor's step if no such refusal is due: the result of the request, or the error of the port
 -- that failed.
-abbrev pub IsActReply : Act → ObservedActor → Reply → Type 0
+abbrev pub IsActReply : ActorStep → ObservedActor → Reply → Type 0
 IsActReply (BeginRo bounds) observed reply = (reply ≡ Begun) ⊎ (reply ≡ Refused refusals.Memory)
 IsActReply BeginRw observed (Based base) = Unit {0}
 IsActReply BeginRw observed (Refused (refusals.Database error)) = Unit {0}
@@ -308,11 +308,11 @@ abbrev pub IsDueOr : Option Refusal → Type 0 → Reply → Type 0
 IsDueOr (Some refusal) Suits reply = reply ≡ Refused refusal
 IsDueOr None Suits reply = Suits
 
-abbrev pub IsActDue : ObservedActor → Act → Reply → Type 0
+abbrev pub IsActDue : ObservedActor → ActorStep → Reply → Type 0
 IsActDue observed act reply = IsDueOr (due_refusal act observed) (IsActReply act observed reply) reply
 
 -- no such node; or no pin of the stamp to add
-abbrev pub due_keep : ℕ → List ℕ → Keep → Option Refusal
+abbrev pub due_keep : ℕ → List ℕ → KeeperStep → Option Refusal
 due_keep nodes spare (keeps.Advance node) = if nat_lt node nodes then None else Some NoNode
 due_keep nodes spare (keeps.Sweep node horizon) = if nat_lt node nodes then None else Some NoNode
 due_keep nodes spare (keeps.Add stamp) = if is_held stamp spare then None else Some NoRequest
@@ -320,7 +320,7 @@ due_keep nodes spare keep = None
 
 -- the reply to a step of the keeper if no refusal of the world itself is due: the result of the request, or the
 -- error of the port that failed
-abbrev pub IsKeepReply : Keep → Reply → Type 0
+abbrev pub IsKeepReply : KeeperStep → Reply → Type 0
 IsKeepReply (keeps.Write change) (At stamp) = Unit {0}
 IsKeepReply (keeps.Write change) (Refused (refusals.Database error)) = Unit {0}
 IsKeepReply (keeps.Pin now) (At stamp) = Unit {0}
@@ -343,7 +343,7 @@ IsKeepReply (keeps.Sweep node horizon) (replies.Swept count) = Unit {0}
 IsKeepReply (keeps.Sweep node horizon) (Refused (refusals.Node error)) = Unit {0}
 IsKeepReply keep reply = ⊥
 
-abbrev pub IsKeepDue : ℕ → List ℕ → Keep → Reply → Type 0
+abbrev pub IsKeepDue : ℕ → List ℕ → KeeperStep → Reply → Type 0
 IsKeepDue nodes spare keep reply = IsDueOr (due_keep nodes spare keep) (IsKeepReply keep reply) reply
 
 -- a step of an actor that does not exist is refused; the reply to any other is the one due

@@ -3,7 +3,7 @@ use Rattle.std.specs.Prelude.{◌≡◌, ℕ, ◌+◌, List, All, Some, false, l
 use mathlib.Core.List.{IsPrefix}
 use Rattle.txc_db.specs.declared.error.DbError.{DbError}
 use Rattle.txc_db.specs.declared.pinned.Pinned.{Pinned}
-use Rattle.txc_db.specs.Seen.{FrontValue}
+use Rattle.txc_db.specs.FrontsAndFeeds.{FrontValue}
 use Rattle.txc_db.specs.DatabaseValue.{DatabaseValue, front_of}
 use Rattle.txc_db.specs.Calls.{IsLeft}
 use Rattle.txc_cushion.specs.Cushion.{CushionValue}
@@ -57,9 +57,9 @@ pub record HasRefused (old new : PortsValue) (refusal : DbError) : Type 0 where
   pub left : IsLeft old.database new.database refusal
 
 -- the node of that number was led from one value to the other, and nothing else was called
-pub record HasLedNode (at : ℕ) (leads : NodeValue → NodeValue → Type 0) (old new : PortsValue) : Type 0 where
+pub record HasLedNode (at : ℕ) (transition : NodeValue → NodeValue → Type 0) (old new : PortsValue) : Type 0 where
   pub before : NodeValue
   pub after : NodeValue
   pub there : slice_get old.nodes at ≡ Some before
   pub is : new ≡ record old { nodes = slice_set old.nodes at after }
-  pub led : leads before after
+  pub led : transition before after

@@ -2,7 +2,7 @@
 use Rattle.std.specs.Prelude.{◌≡◌, ℕ, ◌≤◌, List, [], ◌∷◌, ◌++◌, Some}
 use Rattle.std.specs.List.{AllByRecursion}
 use Rattle.txc_cushion.specs.declared.pin.Pin.{Pin}
-use Rattle.txc_world.specs.declared.step.Act.TheVariants.{Commit}
+use Rattle.txc_world.specs.declared.step.ActorStep.TheVariants.{Commit}
 use Rattle.txc_world.specs.declared.step.Step.{Step}
 use Rattle.txc_world.specs.declared.step.Step.TheVariants.{Actor, BeginIn}
 use Rattle.txc_world.specs.declared.reply.Reply.{Reply}
@@ -36,8 +36,8 @@ HaveToldAtMost number most happened = AllByRecursion (λ x. ToldAtMost number mo
 -- No session goes back. Let an actor begin a transaction in its session and commit it, with no other begun in
 -- between. Then the stamp of its receipt is not below any that the actor was shown before: that of a receipt,
 -- or of the commit of a read-write transaction, in the session or not.
-abbrev pub NoActorGoesBack : List Step → List Reply → Type 0
-NoActorGoesBack steps replies =
+abbrev pub ActorSessionsAreMonotonic : List Step → List Reply → Type 0
+ActorSessionsAreMonotonic steps replies =
     (number now staleness : ℕ) (pin : Pin) (before between after : List (Step × Reply))
     → replied steps replies ≡ before ++ ((BeginIn number now staleness, Begun) ∷ (between
     ++ ((Actor number Commit, Receipt (Some pin)) ∷ after)))

@@ -2,8 +2,8 @@
 use Rattle.std.specs.Prelude.{ℕ, ◌+◌, ◌≤◌, List, [], ◌∷◌, ◌++◌, Contains}
 use Rattle.txc_db.specs.DatabaseValue.{without}
 use Rattle.txc_cushion.specs.Entries.{stamps_of, times, users_of}
-use Rattle.txc_world.specs.declared.step.Keep.{Keep}
-use Rattle.txc_world.specs.declared.step.Keep.TheVariants as keeps
+use Rattle.txc_world.specs.declared.step.KeeperStep.{KeeperStep}
+use Rattle.txc_world.specs.declared.step.KeeperStep.TheVariants as keeps
 use Rattle.txc_world.specs.declared.step.Step.{Step}
 use Rattle.txc_world.specs.declared.step.Step.TheVariants.{Actor, BeginIn, Keeper}
 use Rattle.txc_world.specs.declared.reply.Reply.{Reply}
@@ -11,8 +11,8 @@ use Rattle.txc_world.specs.declared.reply.Reply.TheVariants as replies
 use Rattle.txc_world.specs.declared.reply.Reply.TheVariants.{Refused}
 use Rattle.txc_world.specs.declared.reply.Refusal.TheVariants as refusals
 use Rattle.txc_world.specs.Holdings.{holdings_of, times_own, times_taken, Account, Holdings}
-use Rattle.txc_world.specs.Keeping.{stamps_of_pins}
-use Rattle.txc_world.specs.Losing.{IfReplyLost}
+use Rattle.txc_world.specs.KeeperAtPorts.{stamps_of_pins}
+use Rattle.txc_world.specs.LostSnapshot.{IfReplyLost}
 use Rattle.txc_world.specs.Ports.{PortsValue}
 
 -- The keeper's own holds and users, computed from its steps and their replies: the stamps of the pins that it
@@ -26,7 +26,7 @@ abbrev pub nothing_in_hand : InHand
 nothing_in_hand = record { lent = []; owed = [] }
 
 -- the keeper's own after one of its steps
-abbrev pub in_hand_kept : Keep → Reply → InHand → InHand
+abbrev pub in_hand_kept : KeeperStep → Reply → InHand → InHand
 in_hand_kept (keeps.Add stamp) replies.Added in_hand = record in_hand { lent = stamp ∷ in_hand.lent }
 in_hand_kept (keeps.Add stamp) (Refused (refusals.Pincushion error)) in_hand =
     record in_hand { owed = stamp ∷ in_hand.owed }
@@ -51,7 +51,7 @@ in_hand_by in_hand (step ∷ steps) (reply ∷ replies) = in_hand_by (in_hand_af
 -- ---- tidy
 
 -- the keeper returns only users of pins that it added, and unpins only stamps that it must unpin
-abbrev pub IsTidyKeep : Keep → Reply → InHand → Type 0
+abbrev pub IsTidyKeep : KeeperStep → Reply → InHand → Type 0
 IsTidyKeep (keeps.GiveBack stamp) replies.GivenBack in_hand = Contains in_hand.lent stamp
 IsTidyKeep (keeps.Unpin stamp) replies.Unpinned in_hand = Contains in_hand.owed stamp
 IsTidyKeep keep reply in_hand = Unit {0}
@@ -98,7 +98,7 @@ pub record AreBalanced (spare : List ℕ) (holdings : Holdings) (in_hand : InHan
 -- ---- a step of the keeper
 
 -- a tidy step keeps the balance
-abbrev pub KeepsBalance : Keep → PortsValue → PortsValue → Reply → Type 0
+abbrev pub KeepsBalance : KeeperStep → PortsValue → PortsValue → Reply → Type 0
 KeepsBalance keep old new reply = (in_hand : InHand) (accounts : List Account) → IsTidyKeep keep reply in_hand
     → AreBalanced (stamps_of_pins old.spare) (holdings_of old accounts) in_hand
     → AreBalanced (stamps_of_pins new.spare) (holdings_of new accounts) (in_hand_kept keep reply in_hand)

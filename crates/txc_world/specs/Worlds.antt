@@ -1,19 +1,19 @@
 -- The state of a world, and its value.
 use Rattle.std.specs.Prelude.{◌≡◌, ℕ, ◌≤◌, Bool, true, false, List, [], All, Option, None, Some, length, map}
 use Rattle.txc_db.specs.History.{History, state_at}
-use Rattle.txc_db.specs.Seen.{FrontValue}
+use Rattle.txc_db.specs.FrontsAndFeeds.{FrontValue}
 use Rattle.txc_cushion.specs.declared.pin.Pin.{Pin}
 use Rattle.txc_app.specs.Eval.{Next}
 use Rattle.txc_shared.specs.Nodes.{start_of, NodeValue}
 use Rattle.txc_shared.specs.Runs.{IsNode}
-use Rattle.txc_ports.specs.Answers.{AreConsistent, IsFresh}
+use Rattle.txc_txn_ports.specs.Answers.{AreConsistent, IsFresh}
 use Rattle.txc_world.specs.declared.actor.Actor.{Actor}
 use Rattle.txc_world.specs.declared.settings.WorldSettings.{WorldSettings}
 use Rattle.txc_world.specs.declared.reply.Refusal.{Refusal}
 use Rattle.txc_world.specs.declared.reply.Refusal.TheVariants.{NoActor, NotOpen}
 use Rattle.txc_world.specs.Observation.{Reading, ObservedActor, idle, reading, writing, leaving, Observation}
 use Rattle.txc_world.specs.Ports.{PortsValue, whole_of}
-use Rattle.txc_world.specs.Keeping.{stamps_of_pins}
+use Rattle.txc_world.specs.KeeperAtPorts.{stamps_of_pins}
 use Rattle.txc_world.specs.ActorValues.{actor_at, ActorValue}
 use Rattle.txc_world.specs.Actors.{observed_at, IsActorThere}
 use Rattle.txc_world.specs.Holdings.{account_at, holdings_of, Holdings}

@@ -1,35 +1,35 @@
 //! The steps of an actor, each kind by itself.
 ghost use Rattle.std.specs.Prelude.{◌≡◌, ℕ, ◌≤◌, ◌<◌, All, IfNone, IfSome, None, Some, length, vec_len};
-ghost use Rattle.txc_registry.specs.Objects.{AllIdle};
+ghost use Rattle.txc_call_registry.specs.Objects.{AllIdle};
 ghost use Rattle.txc_app.specs.Eval.{Next};
-ghost use Rattle.txc_txn.specs.Core.{open_call, recorded_after, CoreAsks, IsTurn};
-ghost use Rattle.txc_ports.specs.Asking.{AddsSuch};
-ghost use Rattle.txc_ports.specs.Turns.{IsAsk};
-ghost use Rattle.txc_world.specs.Acted.{ActsAt, ActsThere, IsActed};
+ghost use Rattle.txc_txn.specs.TxnCore.{open_call, recorded_after, CoreAsks, IsTurn};
+ghost use Rattle.txc_txn_ports.specs.PortRequests.{AddsSuch};
+ghost use Rattle.txc_txn_ports.specs.Turns.{IsAsk};
+ghost use Rattle.txc_world.specs.ActorStep.{ActsAt, ActsThere, IsActed};
 ghost use Rattle.txc_world.specs.Actors.{counted, holds_any, AddsPart, DropsNone, HasAsked, IsActor, IsActorThere, IsNoted, IsOpenTxn};
-ghost use Rattle.txc_world.specs.Acts.{ActTransition, ReadingTransition, RestingTransition};
+ghost use Rattle.txc_world.specs.StepEffects.{ActTransition, ReadingTransition, RestingTransition};
 ghost use Rattle.txc_world.specs.ActorValues.{actor_value, opened, reading_value, reads};
-ghost use Rattle.txc_world.specs.Holdings.{account_of_core, HasLost, IsFair};
-ghost use Rattle.txc_world.specs.Losing.{IfDidLose, IfTurnLost};
+ghost use Rattle.txc_world.specs.Holdings.{account_of_core, HasLost, TakesOnlyItsOwn};
+ghost use Rattle.txc_world.specs.LostSnapshot.{IfDidLose, IfTurnLost};
 ghost use Rattle.txc_world.specs.Parts.{IsPartOf};
 ghost use Rattle.txc_world.specs.Ports.{whole_of, KeepsRow};
 ghost use Rattle.txc_world.specs.Observation.{did_in};
 
 use crate::actor::{Actor, OpenCall, OpenTxn};
-use crate::did::{Did, told};
+use crate::port_outcome::{PortOutcome, told};
 use crate::ports::Ports;
 use crate::reply::{Refusal, Reply};
-use crate::step::Act;
+use crate::step::ActorStep;
 use crate::writing::{act_writing, begin_rw};
 use std::alloc::Global;
 use txc_app::App;
+use txc_call_registry::{Cacheable, Registry};
 use txc_cushion::Pin;
 use txc_node::Value;
-use txc_ports::{Bounds, PortRequest, Turn, TxnError};
-use txc_registry::{Cacheable, Registry};
 use txc_stamp::Reach;
 use txc_tags::Key;
 use txc_txn::{RunningTxn, TxnCore};
+use txc_txn_ports::{Bounds, PortRequest, Turn, TxnError};
 
 // Begins a transaction with the pins that are issued for it. If memory cannot be allocated, they are returned,
 // and nothing is open.
@@ -42,8 +42,8 @@ fn begin_ro<A: App, C: Cacheable>(
 ) -> (Actor<A, C>, Reply)
     requires idle { AllIdle registry }
     requires nodes { 1 ≤ length ports.old.nodes }
-    ensures acted { IsActed A.next (Act.BeginRo bounds) ports.old ports.new (Actor.Idle registry) result.0 result.1 }
-    ensures leads { RestingTransition renew_after (Act.BeginRo bounds) ports.old ports.new registry
+    ensures acted { IsActed A.next (ActorStep.BeginRo bounds) ports.old ports.new (Actor.Idle registry) result.0 result.1 }
+    ensures transition { RestingTransition renew_after (ActorStep.BeginRo bounds) ports.old ports.new registry
         (actor_value result.0) result.1 }
 {
     ports.count_right();
@@ -71,9 +71,9 @@ fn start<A: App, C: Cacheable>(
     key: &Key,
 ) -> Reply
     requires fits { IsOpenTxn (whole_of whole.now) (length whole.now.nodes) current.old }
-    ensures acted { IsActed A.next (Act.Start key.now) whole.now whole.now
+    ensures acted { IsActed A.next (ActorStep.Start key.now) whole.now whole.now
         (Actor.Reading current.old) (Actor.Reading current.new) result }
-    ensures leads { (next : Next) (pass : ℕ) → ReadingTransition next pass (Act.Start key.now) whole.now whole.now
+    ensures transition { (next : Next) (pass : ℕ) → ReadingTransition next pass (ActorStep.Start key.now) whole.now whole.now
         (reading_value current.old) (reads (reading_value current.new)) result }
 {
     if current.call.is_some() {
@@ -88,11 +88,11 @@ fn start<A: App, C: Cacheable>(
 }
 
 // Returns the port's action, with a hit in whose reach no member is as a miss.
-fn counted(did: Did, members: &[Pin]) -> Did
+fn counted(did: PortOutcome, members: &[Pin]) -> PortOutcome
     ensures { result ≡ counted members.now did }
 {
     match did {
-        Did::Hit(reach) if !holds_any(reach, members) => Did::Miss,
+        PortOutcome::Hit(reach) if !holds_any(reach, members) => PortOutcome::Miss,
         did => did,
     }
 }
@@ -111,7 +111,7 @@ fn go_on<A: App, C: Cacheable>(
     pass: usize,
     txn: &mut RunningTxn<A, C>,
     request: PortRequest,
-) -> (Did, Turn<PortRequest, Value>)
+) -> (PortOutcome, Turn<PortRequest, Value>)
     requires own { pass < ports.old.actors }
     requires asks { CoreAsks txn.old.core request }
     requires seen { IsPartOf (whole_of ports.old) txn.old.core.seen }
@@ -131,7 +131,7 @@ fn go_on<A: App, C: Cacheable>(
         ≡ did_in result.0 txn.old.core.bounds.now ports.old.database.history }
     ensures keeps { KeepsRow ports.old ports.new }
     ensures spare { ports.new.spare ≡ ports.old.spare }
-    ensures fair { IsFair ports.old ports.new (account_of_core txn.old.core) (account_of_core txn.new.core) }
+    ensures own_only { TakesOnlyItsOwn ports.old ports.new (account_of_core txn.old.core) (account_of_core txn.new.core) }
     ensures drops { DropsNone txn.new.core }
     ensures loss { IfDidLose result.0 (HasLost ports.old (account_of_core txn.old.core)) }
     ensures lost { IfTurnLost result.1 (HasLost ports.old (account_of_core txn.old.core)) }
@@ -170,9 +170,9 @@ fn request_call<A: App, C: Cacheable>(
 ) -> Reply
     requires own { pass < ports.old.actors }
     requires fits { IsOpenTxn (whole_of ports.old) (length ports.old.nodes) current.old }
-    ensures acted { IsActed A.next Act.Request ports.old ports.new
+    ensures acted { IsActed A.next ActorStep.Request ports.old ports.new
         (Actor.Reading current.old) (Actor.Reading current.new) result }
-    ensures leads { ReadingTransition A.next pass Act.Request ports.old ports.new
+    ensures transition { ReadingTransition A.next pass ActorStep.Request ports.old ports.new
         (reading_value current.old) (reads (reading_value current.new)) result }
 {
     let Some(OpenCall { key, turn }) = current.call.take() else {
@@ -196,8 +196,8 @@ fn commit<A: App, C: Cacheable>(
 ) -> (Actor<A, C>, Reply)
     requires fits { IsOpenTxn (whole_of ports.old) (length ports.old.nodes) current }
     requires no_call { current.call ≡ None }
-    ensures acted { IsActed A.next Act.Commit ports.old ports.new (Actor.Reading current) result.0 result.1 }
-    ensures leads { (next : Next) (pass : ℕ) → ReadingTransition next pass Act.Commit ports.old ports.new
+    ensures acted { IsActed A.next ActorStep.Commit ports.old ports.new (Actor.Reading current) result.0 result.1 }
+    ensures transition { (next : Next) (pass : ℕ) → ReadingTransition next pass ActorStep.Commit ports.old ports.new
         (reading_value current) (actor_value result.0) result.1 }
 {
     let OpenTxn { txn, call: _ } = current;
@@ -208,8 +208,8 @@ fn commit<A: App, C: Cacheable>(
 
 // Aborts the transaction, also in the middle of a call, and returns its pins.
 fn abort<A: App, C: Cacheable>(ports: &mut Ports<A>, current: OpenTxn<A, C>) -> (Actor<A, C>, Reply)
-    ensures acted { IsActed A.next Act.Abort ports.old ports.new (Actor.Reading current) result.0 result.1 }
-    ensures leads { (next : Next) (pass : ℕ) → ReadingTransition next pass Act.Abort ports.old ports.new
+    ensures acted { IsActed A.next ActorStep.Abort ports.old ports.new (Actor.Reading current) result.0 result.1 }
+    ensures transition { (next : Next) (pass : ℕ) → ReadingTransition next pass ActorStep.Abort ports.old ports.new
         (reading_value current) (actor_value result.0) result.1 }
 {
     let (left, registry) = current.txn.cancel();
@@ -226,35 +226,38 @@ fn act_open<A: App, C: Cacheable>(
     ports: &mut Ports<A>,
     pass: usize,
     current: OpenTxn<A, C>,
-    act: &Act,
+    act: &ActorStep,
 ) -> (Actor<A, C>, Reply)
     requires own { pass < ports.old.actors }
     requires fits { IsOpenTxn (whole_of ports.old) (length ports.old.nodes) current }
     ensures acted { IsActed A.next act.now ports.old ports.new (Actor.Reading current) result.0 result.1 }
-    ensures leads { ReadingTransition A.next pass act.now ports.old ports.new (reading_value current)
+    ensures transition { ReadingTransition A.next pass act.now ports.old ports.new (reading_value current)
         (actor_value result.0) result.1 }
 {
     match act {
-        Act::BeginRo(_) | Act::BeginRw => (
+        ActorStep::BeginRo(_) | ActorStep::BeginRw => (
             Actor::Reading(current),
             Reply::Refused(Refusal::AlreadyOpen),
         ),
-        Act::Ask(_) | Act::Write(_) => (Actor::Reading(current), Reply::Refused(Refusal::NotOpen)),
-        Act::Request => {
+        ActorStep::Ask(_) | ActorStep::Write(_) => (
+            Actor::Reading(current),
+            Reply::Refused(Refusal::NotOpen),
+        ),
+        ActorStep::Request => {
             let mut current = current;
             let reply = request_call(alloc, ports, pass, &mut current);
             (Actor::Reading(current), reply)
         }
-        Act::Start(key) => {
+        ActorStep::Start(key) => {
             let mut current = current;
             let reply = start(alloc, ports, &mut current, key);
             (Actor::Reading(current), reply)
         }
-        Act::Abort => abort(ports, current),
-        Act::Commit if current.call.is_some() => {
+        ActorStep::Abort => abort(ports, current),
+        ActorStep::Commit if current.call.is_some() => {
             (Actor::Reading(current), Reply::Refused(Refusal::MidCall))
         }
-        Act::Commit => commit(ports, current),
+        ActorStep::Commit => commit(ports, current),
     }
 }
 
@@ -265,36 +268,39 @@ fn act_whole<A: App, C: Cacheable>(
     renew_after: u64,
     pass: usize,
     actor: Actor<A, C>,
-    act: &Act,
+    act: &ActorStep,
 ) -> (Actor<A, C>, Reply)
     requires own { pass < ports.old.actors }
     requires nodes { 1 ≤ length ports.old.nodes }
     requires fits { IsActor A.next (whole_of ports.old) (length ports.old.nodes) actor }
     ensures acted { IsActed A.next act.now ports.old ports.new actor result.0 result.1 }
-    ensures leads { ActTransition A.next renew_after pass act.now ports.old ports.new (actor_value actor)
+    ensures transition { ActTransition A.next renew_after pass act.now ports.old ports.new (actor_value actor)
         (actor_value result.0) result.1 }
 {
     match actor {
         Actor::Idle(registry) => match act {
-            Act::BeginRo(bounds) => begin_ro(alloc, ports, renew_after, registry, *bounds),
-            Act::BeginRw => begin_rw(alloc, ports, registry),
+            ActorStep::BeginRo(bounds) => begin_ro(alloc, ports, renew_after, registry, *bounds),
+            ActorStep::BeginRw => begin_rw(alloc, ports, registry),
             _ => (Actor::Idle(registry), Reply::Refused(Refusal::NotOpen)),
         },
         Actor::Reading(current) => act_open(alloc, ports, pass, current, act),
         Actor::Writing(current) => act_writing(alloc, ports, current, act),
         Actor::Leaving(registry, stamp) => match act {
             // It removes the hold that is left, and has nothing open then.
-            Act::Request => {
+            ActorStep::Request => {
                 ports.count_right();
                 match ports.unpin(stamp) {
-                    Ok(()) => (Actor::Idle(registry), Reply::Asked(Did::Unpinned, None)),
+                    Ok(()) => (
+                        Actor::Idle(registry),
+                        Reply::Asked(PortOutcome::Unpinned, None),
+                    ),
                     Err(error) => (
                         Actor::Idle(registry),
-                        Reply::Asked(Did::Refused(error), None),
+                        Reply::Asked(PortOutcome::Refused(error), None),
                     ),
                 }
             }
-            Act::BeginRo(_) | Act::BeginRw => (
+            ActorStep::BeginRo(_) | ActorStep::BeginRw => (
                 Actor::Leaving(registry, stamp),
                 Reply::Refused(Refusal::AlreadyOpen),
             ),
@@ -312,7 +318,7 @@ fn call_there<A: App, C: Cacheable>(
     ports: &mut Ports<A>,
     number: usize,
     slot: &mut Option<Actor<A, C>>,
-    act: &Act,
+    act: &ActorStep,
 ) -> Option<Reply>
     requires own { number < ports.old.actors }
     requires fits { IsActorThere A.next (whole_of ports.old) (length ports.old.nodes) slot.old }
@@ -321,8 +327,8 @@ fn call_there<A: App, C: Cacheable>(
 {
     match slot {
         Some(Actor::Reading(current)) => match act {
-            Act::Request => Some(request_call(alloc, ports, number, current)),
-            Act::Start(key) => Some(start(alloc, ports, current, key)),
+            ActorStep::Request => Some(request_call(alloc, ports, number, current)),
+            ActorStep::Start(key) => Some(start(alloc, ports, current, key)),
             _ => None,
         },
         _ => None,
@@ -337,7 +343,7 @@ pub(crate) fn act_at<A: App, C: Cacheable>(
     renew_after: u64,
     number: usize,
     actors: &mut Vec<Option<Actor<A, C>>>,
-    act: &Act,
+    act: &ActorStep,
 ) -> Reply
     requires own { number < ports.old.actors }
     requires nodes { 1 ≤ length ports.old.nodes }

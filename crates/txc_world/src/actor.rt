@@ -3,14 +3,14 @@ ghost use Rattle.std.specs.Prelude.{◌≡◌, map, Some, IfOk};
 
 use std::alloc::{AllocError, Global};
 use txc_app::App;
+use txc_call_registry::{Cacheable, Registry};
 use txc_node::Value;
-use txc_ports::{PortRequest, Turn};
-use txc_registry::{Cacheable, Registry};
 use txc_rows::Query;
-use txc_rw::RwCore;
 use txc_stamp::Stamp;
 use txc_tags::Key;
 use txc_txn::RunningTxn;
+use txc_txn_ports::{PortRequest, Turn};
+use txc_txn_rw::RwCore;
 
 /// A call that has not ended for its caller yet: its key, and its next step.
 #[derive(Drop)]

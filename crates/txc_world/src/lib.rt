@@ -8,9 +8,9 @@
 
 mod acting;
 mod actor;
-mod did;
 mod keeping;
 mod nodes;
+mod port_outcome;
 mod ports;
 mod reply;
 mod sessions;
@@ -19,8 +19,8 @@ mod step;
 mod world;
 mod writing;
 
-pub use did::{Did, RowsFound};
+pub use port_outcome::{PortOutcome, RowsFound};
 pub use reply::{Refusal, Reply};
 pub use settings::WorldSettings;
-pub use step::{Act, Keep, Step};
+pub use step::{ActorStep, KeeperStep, Step};
 pub use world::{Members, World};

@@ -56,8 +56,8 @@ impl<A: App> Model for Ports<A> {
 }
 
 impl<A: App> Ports<A> {
-    ghost use Rattle.txc_ports.specs.Answers.{IsFresh};
-    ghost use Rattle.txc_world.specs.Asks.{AddTransition, FindTransition, FreshTransition, HoldTransition, PinTransition, UnpinTransition};
+    ghost use Rattle.txc_txn_ports.specs.Answers.{IsFresh};
+    ghost use Rattle.txc_world.specs.PortRequests.{AddTransition, FindTransition, FreshTransition, HoldTransition, PinTransition, UnpinTransition};
     ghost use Rattle.txc_world.specs.Holdings.{CountRight, GivesBack, KeepsPins};
     ghost use Rattle.txc_world.specs.Parts.{IsPartOf};
     ghost use Rattle.txc_world.specs.Ports.{whole_of, KeepsRow};
@@ -107,7 +107,7 @@ impl<A: App> Ports<A> {
         now: u64,
         at_least: Stamp,
     ) -> Result<Pinned, DbError>
-        ensures leads { PinTransition now at_least self.old self.new result }
+        ensures transition { PinTransition now at_least self.old self.new result }
         ensures keeps { KeepsRow self.old self.new }
     {
         let pinned = self.database.pin(alloc, now, at_least)?;
@@ -118,7 +118,7 @@ impl<A: App> Ports<A> {
     /// Adds a pin to the pincushion.
     pub(crate) fn add(&mut self, pinned: &Pinned) -> Result<(), AddError>
         requires { IsPartOf (whole_of self.old) pinned.now.front }
-        ensures leads { AddTransition pinned.now self.old self.new result }
+        ensures transition { AddTransition pinned.now self.old self.new result }
         ensures keeps { KeepsRow self.old self.new }
     {
         self.cushion.add(pinned)
@@ -126,7 +126,7 @@ impl<A: App> Ports<A> {
 
     /// Removes one hold of the stamp.
     pub(crate) fn unpin(&mut self, stamp: Stamp) -> Result<(), DbError>
-        ensures leads { UnpinTransition stamp self.old self.new result }
+        ensures transition { UnpinTransition stamp self.old self.new result }
         ensures same { self.new ≡ record self.old { database = self.new.database } }
         ensures history { self.new.database.history ≡ self.old.database.history }
         ensures keeps { KeepsRow self.old self.new }
@@ -136,7 +136,7 @@ impl<A: App> Ports<A> {
 
     /// Holds the newest stamp.
     pub(crate) fn hold(&mut self, alloc: Global) -> Result<Stamp, DbError>
-        ensures leads { HoldTransition self.old self.new result }
+        ensures transition { HoldTransition self.old self.new result }
         ensures same { self.new ≡ record self.old { database = self.new.database } }
         ensures history { self.new.database.history ≡ self.old.database.history }
         ensures keeps { KeepsRow self.old self.new }
@@ -153,7 +153,7 @@ impl<A: App> Ports<A> {
         stamp: Stamp,
     ) -> Result<Answered<Found>, DbError>
         ensures same { self.new ≡ self.old }
-        ensures leads { FindTransition query.now stamp self.old result }
+        ensures transition { FindTransition query.now stamp self.old result }
     {
         let answer = self.database.query(alloc, query, stamp)?;
         let front = self.database.front()?;
@@ -168,7 +168,7 @@ impl<A: App> Ports<A> {
         staleness: u64,
         at_least: Stamp,
     ) -> Result<Pins, AllocError>
-        ensures leads { FreshTransition now staleness at_least self.old self.new result }
+        ensures transition { FreshTransition now staleness at_least self.old self.new result }
         ensures part { IfOk result (λ pins. IsPartOf (whole_of self.old) pins.front) }
         ensures allowed { IfOk result (λ pins. All (IsFresh pins.front.history
             (record { now = now; staleness = staleness; at_least = at_least })) pins.pins.items) }

@@ -2,17 +2,17 @@
 ghost use Rattle.std.specs.Fmt.{WritesOnOk};
 ghost use Rattle.txc_world.specs.Codes.{refusal_code};
 
-use crate::did::{Did, RowsFound};
+use crate::port_outcome::{PortOutcome, RowsFound};
 use std::alloc::AllocError;
 use std::fmt;
 use thiserror::Error;
 use txc_cushion::{AddError, Pin, UnknownPin};
 use txc_db::DbError;
 use txc_node::Value;
-use txc_ports::TxnError;
 use txc_rows::Row;
 use txc_shared::{Advanced, NodeError};
 use txc_stamp::Stamp;
+use txc_txn_ports::TxnError;
 
 /// Errors of a step. The first six are the world's own: they come before any other, in this order, and change
 /// nothing.
@@ -91,7 +91,7 @@ pub enum Reply {
     /// A call is open.
     Started,
     /// The port's action, and the call's result, if the call has ended with this.
-    Asked(Did, Option<Result<Value, TxnError>>),
+    Asked(PortOutcome, Option<Result<Value, TxnError>>),
     /// The call's result, if it ended before any request.
     Ended(Result<Value, TxnError>),
     /// The rows of a query of a read-write transaction, in the order of the answer.

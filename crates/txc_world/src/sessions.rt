@@ -5,7 +5,7 @@ ghost use Rattle.txc_world.specs.Observation.{floor_at, floor_by};
 use crate::reply::Reply;
 use std::alloc::{AllocError, Global};
 use txc_app::App;
-use txc_registry::{Cacheable, Registry};
+use txc_call_registry::{Cacheable, Registry};
 use txc_stamp::Stamp;
 use txc_txn::Session;
 

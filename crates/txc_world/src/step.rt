@@ -1,12 +1,12 @@
 //! The steps of a world.
-use txc_ports::Bounds;
 use txc_rows::{Change, Query};
 use txc_stamp::Stamp;
 use txc_tags::Key;
+use txc_txn_ports::Bounds;
 
 /// Step of an actor.
 #[derive(Drop)]
-pub enum Act {
+pub enum ActorStep {
     /// Begins a read-only transaction.
     BeginRo(Bounds),
     /// Begins a read-write transaction at the newest stamp, its base, which is held until it has ended.
@@ -27,7 +27,7 @@ pub enum Act {
 
 /// Step of the keeper.
 #[derive(Drop)]
-pub enum Keep {
+pub enum KeeperStep {
     /// Commits the change at the newest stamp, without reads.
     Write(Change),
     /// Pins the present, at this wall-clock time in milliseconds.
@@ -53,7 +53,7 @@ pub enum Keep {
 /// One step: of the actor of that number, or of the keeper.
 #[derive(Drop)]
 pub enum Step {
-    Actor(usize, Act),
+    Actor(usize, ActorStep),
     /// The actor of that number begins a read-only transaction in its session, which reads nothing older than
     /// the session's floor.
     BeginIn {
@@ -61,5 +61,5 @@ pub enum Step {
         now: u64,
         staleness: u64,
     },
-    Keeper(Keep),
+    Keeper(KeeperStep),
 }

@@ -6,15 +6,15 @@ ghost use Rattle.txc_stream.specs.declared.row.TheConstants.{MAX_CAPACITY as MAX
 ghost use Rattle.txc_shared.specs.declared.log.TheConstants.{MAX_PASSES};
 ghost use Rattle.txc_shared.specs.Nodes.{start_of};
 ghost use Rattle.txc_shared.specs.Runs.{IsNode};
-ghost use Rattle.txc_registry.specs.Objects.{AllIdle};
-ghost use Rattle.txc_world.specs.Acts.{AreLed, IsWholeStep};
+ghost use Rattle.txc_call_registry.specs.Objects.{AllIdle};
+ghost use Rattle.txc_world.specs.StepEffects.{AreAfterSteps, IsWholeStep};
 ghost use Rattle.txc_world.specs.Worlds.{due_of_pins, AreMembersOf, IsBalanced, IsTrueWorld};
 ghost use Rattle.txc_world.specs.ActorValues.{reads, resting, ReadingValue};
-ghost use Rattle.txc_world.specs.Making.{AreNewPorts};
-ghost use Rattle.txc_world.specs.Sessions.{NoActorGoesBack};
+ghost use Rattle.txc_world.specs.NewWorld.{AreNewPorts};
+ghost use Rattle.txc_world.specs.Sessions.{ActorSessionsAreMonotonic};
 ghost use Rattle.txc_db.specs.Refusals.{IsWant};
 ghost use Rattle.txc_world.specs.Tidy.{nothing_in_hand, in_hand_by, AreTidy, LoseNoSnapshot, InHand};
-ghost use Rattle.txc_world.specs.Observation.{idle, reading, told_by, AreDue, AreExplained, AreExplainedIn, Reading};
+ghost use Rattle.txc_world.specs.Observation.{idle, reading, observed_from, AreDue, AreExplained, AreExplainedIn, Reading};
 
 use crate::acting::act_at;
 use crate::actor::{Actor, idle_actors};
@@ -24,17 +24,17 @@ use crate::ports::Ports;
 use crate::reply::{Refusal, Reply};
 use crate::sessions::{floor_at, new_sessions, note};
 use crate::settings::WorldSettings;
-use crate::step::{Act, Step};
+use crate::step::{ActorStep, Step};
 use std::alloc::{AllocError, Global};
 use std::marker::Model;
 use txc_app::App;
+use txc_call_registry::{Cacheable, Registry};
 use txc_cushion::{CushionCore, Pin};
 use txc_db::{DbCore, DbError};
 use txc_node::Counts;
-use txc_ports::Bounds;
-use txc_registry::{Cacheable, Registry};
 use txc_shared::StoredNode;
 use txc_txn::Session;
+use txc_txn_ports::Bounds;
 
 /// The stamps at which a read-only transaction may still be serialised.
 #[derive(Clone, Copy, Debug)]
@@ -200,7 +200,7 @@ impl<A: App, C: Cacheable> World<A, C> {
     }
 
     // Makes one step of an actor.
-    fn act(&mut self, alloc: Global, number: usize, doing: &Act) -> Reply
+    fn act(&mut self, alloc: Global, number: usize, doing: &ActorStep) -> Reply
         ensures { IsWholeStep A.next self.old (Step.Actor number doing.now) result self.new }
     {
         if number >= self.actors.len() {
@@ -239,7 +239,7 @@ impl<A: App, C: Cacheable> World<A, C> {
                     staleness: *staleness,
                     at_least,
                 };
-                self.act(alloc, *actor, &Act::BeginRo(bounds))
+                self.act(alloc, *actor, &ActorStep::BeginRo(bounds))
             }
             Step::Keeper(doing) => {
                 self.ports.count_right();
@@ -267,13 +267,13 @@ impl<A: App, C: Cacheable> World<A, C> {
     /// tidy, the same is true afterwards. Then neither a query nor the commit of an open transaction fails for
     /// a lost snapshot.
     pub fn run(&mut self, alloc: Global, steps: &[Step]) -> Result<Vec<Reply>, AllocError>
-        ensures told { IfOk result (λ replies. self.new.told ≡ told_by self.old.told steps.now replies.items) }
-        ensures leads { IfOk result (λ replies. AreLed A.next self.old steps.now replies.items self.new) }
+        ensures told { IfOk result (λ replies. self.new.told ≡ observed_from self.old.told steps.now replies.items) }
+        ensures transition { IfOk result (λ replies. AreAfterSteps A.next self.old steps.now replies.items self.new) }
         ensures explained { IfOk result (λ replies. AreExplained A.next self.old.told steps.now replies.items) }
         ensures explained_in_the_end { IfOk result (λ replies.
             AreExplainedIn A.next self.new.told.history self.old.told steps.now replies.items) }
         ensures due { IfOk result (λ replies. AreDue self.old.told steps.now replies.items) }
-        ensures sessions { IfOk result (λ replies. NoActorGoesBack steps.now replies.items) }
+        ensures sessions { IfOk result (λ replies. ActorSessionsAreMonotonic steps.now replies.items) }
         ensures balanced { IfOk result (λ replies. (in_hand : InHand) → IsBalanced self.old in_hand
             → AreTidy in_hand steps.now replies.items
             → IsBalanced self.new (in_hand_by in_hand steps.now replies.items)) }

@@ -2,32 +2,32 @@
 ghost use Rattle.std.specs.Prelude.{◌≡◌, ℕ, ◌++◌, ◌∷◌, ◌<◌, [], IfErr, None, OnErr, OnOk, length};
 ghost use Rattle.txc_rows.specs.declared.query.Change.{Change};
 ghost use Rattle.txc_app.specs.Eval.{Next};
-ghost use Rattle.txc_registry.specs.Objects.{AllIdle, Objects};
-ghost use Rattle.txc_rw.specs.declared.rw_core.TheConstants.{MAX_CHANGES};
-ghost use Rattle.txc_rw.specs.Core.{answers_after, IsRw, IsRwIdle, IsRwTurn, IsWriteRefused, RwHolds};
-ghost use Rattle.txc_ports.specs.Turns.{IsAsk};
-ghost use Rattle.txc_world.specs.Acted.{IsActed};
+ghost use Rattle.txc_call_registry.specs.Objects.{AllIdle, Objects};
+ghost use Rattle.txc_txn_rw.specs.declared.rw_core.TheConstants.{MAX_CHANGES};
+ghost use Rattle.txc_txn_rw.specs.RwCore.{answers_after, IsRw, IsRwIdle, IsRwTurn, IsWriteRefused, RwHolds};
+ghost use Rattle.txc_txn_ports.specs.Turns.{IsAsk};
+ghost use Rattle.txc_world.specs.ActorStep.{IsActed};
 ghost use Rattle.txc_world.specs.Actors.{IsOpenRw};
 ghost use Rattle.txc_world.specs.Holdings.{HasLost};
-ghost use Rattle.txc_world.specs.Losing.{IfDidLose, IfResultLost};
-ghost use Rattle.txc_world.specs.Acts.{RestingTransition, WritingTransition};
+ghost use Rattle.txc_world.specs.LostSnapshot.{IfDidLose, IfResultLost};
+ghost use Rattle.txc_world.specs.StepEffects.{RestingTransition, WritingTransition};
 ghost use Rattle.txc_world.specs.ActorValues.{actor_value, writing_value};
-ghost use Rattle.txc_world.specs.Writing.{with_rows, FindTransitionRw, HasAskedRw, IsRead};
+ghost use Rattle.txc_world.specs.WriterStep.{with_rows, FindTransitionRw, HasAskedRw, IsRead};
 
 use crate::acting::note;
 use crate::actor::{Actor, OpenCall, OpenRw};
-use crate::did::{Did, answer_told};
+use crate::port_outcome::{PortOutcome, answer_told};
 use crate::ports::Ports;
 use crate::reply::{Refusal, Reply};
-use crate::step::Act;
+use crate::step::ActorStep;
 use std::alloc::Global;
 use txc_app::App;
+use txc_call_registry::{Cacheable, Registry};
 use txc_node::Value;
-use txc_ports::{Turn, TxnError};
-use txc_registry::{Cacheable, Registry};
 use txc_rows::{Change, Query, Row};
-use txc_rw::{MAX_CHANGES, RwCore};
 use txc_tags::Key;
+use txc_txn_ports::{Turn, TxnError};
+use txc_txn_rw::{MAX_CHANGES, RwCore};
 
 /// Begins a transaction at the newest stamp, which is held. If that fails, nothing is open.
 pub(crate) fn begin_rw<A: App, C: Cacheable>(
@@ -36,8 +36,8 @@ pub(crate) fn begin_rw<A: App, C: Cacheable>(
     registry: Registry<A, C>,
 ) -> (Actor<A, C>, Reply)
     requires { AllIdle registry }
-    ensures acted { IsActed A.next Act.BeginRw ports.old ports.new (Actor.Idle registry) result.0 result.1 }
-    ensures leads { (renew_after : ℕ) → RestingTransition renew_after Act.BeginRw ports.old ports.new registry
+    ensures acted { IsActed A.next ActorStep.BeginRw ports.old ports.new (Actor.Idle registry) result.0 result.1 }
+    ensures transition { (renew_after : ℕ) → RestingTransition renew_after ActorStep.BeginRw ports.old ports.new registry
         (actor_value result.0) result.1 }
 {
     match ports.hold(alloc) {
@@ -66,8 +66,8 @@ fn start<A: App, C: Cacheable>(
 ) -> (Actor<A, C>, Reply)
     requires fits { IsOpenRw A.next whole.now.database.history current }
     requires no_call { current.call ≡ None }
-    ensures acted { IsActed A.next (Act.Start key.now) whole.now whole.now (Actor.Writing current) result.0 result.1 }
-    ensures leads { WritingTransition A.next (Act.Start key.now) whole.now whole.now (writing_value current)
+    ensures acted { IsActed A.next (ActorStep.Start key.now) whole.now whole.now (Actor.Writing current) result.0 result.1 }
+    ensures transition { WritingTransition A.next (ActorStep.Start key.now) whole.now whole.now (writing_value current)
         (actor_value result.0) result.1 }
 {
     let mut current = current;
@@ -86,7 +86,7 @@ fn go_on<A: App, C: Cacheable>(
     core: &mut RwCore,
     registry: &mut Registry<A, C>,
     query: &Query,
-) -> (Did, Turn<Query, Value>)
+) -> (PortOutcome, Turn<Query, Value>)
     requires fits { IsRw A.next registry.old core.old }
     requires holds { RwHolds A.next ports.old.database.history registry.old core.old }
     requires asks { IsRwTurn core.old (Turn.Ask query.now) }
@@ -135,8 +135,8 @@ fn request<A: App, C: Cacheable>(
     current: OpenRw<A, C>,
 ) -> (Actor<A, C>, Reply)
     requires { IsOpenRw A.next ports.old.database.history current }
-    ensures acted { IsActed A.next Act.Request ports.old ports.new (Actor.Writing current) result.0 result.1 }
-    ensures leads { WritingTransition A.next Act.Request ports.old ports.new (writing_value current)
+    ensures acted { IsActed A.next ActorStep.Request ports.old ports.new (Actor.Writing current) result.0 result.1 }
+    ensures transition { WritingTransition A.next ActorStep.Request ports.old ports.new (writing_value current)
         (actor_value result.0) result.1 }
 {
     let OpenRw {
@@ -179,7 +179,7 @@ fn find<A: App>(
     ensures same_ports { ports.new ≡ ports.old }
     ensures holds { (next : Next) (objects : Objects) → RwHolds next ports.old.database.history objects core.old
         → RwHolds next ports.old.database.history objects core.new }
-    ensures leads { FindTransitionRw query.now core.old.base ports.old result }
+    ensures transition { FindTransitionRw query.now core.old.base ports.old result }
     ensures answers { core.new.answers ≡ with_rows query.now core.old.answers result }
     ensures read { IsRead query.now core.old.queried core.new.queried result }
     ensures same { core.new ≡ record core.old { queried = core.new.queried; answers = core.new.answers } }
@@ -201,8 +201,8 @@ fn ask<A: App, C: Cacheable>(
 ) -> (Actor<A, C>, Reply)
     requires fits { IsOpenRw A.next ports.old.database.history current }
     requires no_call { current.call ≡ None }
-    ensures acted { IsActed A.next (Act.Ask query.now) ports.old ports.new (Actor.Writing current) result.0 result.1 }
-    ensures leads { WritingTransition A.next (Act.Ask query.now) ports.old ports.new (writing_value current)
+    ensures acted { IsActed A.next (ActorStep.Ask query.now) ports.old ports.new (Actor.Writing current) result.0 result.1 }
+    ensures transition { WritingTransition A.next (ActorStep.Ask query.now) ports.old ports.new (writing_value current)
         (actor_value result.0) result.1 }
 {
     let mut current = current;
@@ -239,8 +239,8 @@ fn write<A: App, C: Cacheable>(
 ) -> (Actor<A, C>, Reply)
     requires fits { IsOpenRw A.next whole.now.database.history current }
     requires no_call { current.call ≡ None }
-    ensures acted { IsActed A.next (Act.Write change.now) whole.now whole.now (Actor.Writing current) result.0 result.1 }
-    ensures leads { WritingTransition A.next (Act.Write change.now) whole.now whole.now (writing_value current)
+    ensures acted { IsActed A.next (ActorStep.Write change.now) whole.now whole.now (Actor.Writing current) result.0 result.1 }
+    ensures transition { WritingTransition A.next (ActorStep.Write change.now) whole.now whole.now (writing_value current)
         (actor_value result.0) result.1 }
 {
     let mut current = current;
@@ -261,8 +261,8 @@ fn commit<A: App, C: Cacheable>(
 ) -> (Actor<A, C>, Reply)
     requires fits { IsOpenRw A.next ports.old.database.history current }
     requires no_call { current.call ≡ None }
-    ensures acted { IsActed A.next Act.Commit ports.old ports.new (Actor.Writing current) result.0 result.1 }
-    ensures leads { WritingTransition A.next Act.Commit ports.old ports.new (writing_value current)
+    ensures acted { IsActed A.next ActorStep.Commit ports.old ports.new (Actor.Writing current) result.0 result.1 }
+    ensures transition { WritingTransition A.next ActorStep.Commit ports.old ports.new (writing_value current)
         (actor_value result.0) result.1 }
 {
     ports.count_right();
@@ -285,8 +285,8 @@ fn commit<A: App, C: Cacheable>(
 // Aborts the transaction, also in the middle of a call.
 fn abort<A: App, C: Cacheable>(whole: &Ports<A>, current: OpenRw<A, C>) -> (Actor<A, C>, Reply)
     requires { IsOpenRw A.next whole.now.database.history current }
-    ensures acted { IsActed A.next Act.Abort whole.now whole.now (Actor.Writing current) result.0 result.1 }
-    ensures leads { WritingTransition A.next Act.Abort whole.now whole.now (writing_value current)
+    ensures acted { IsActed A.next ActorStep.Abort whole.now whole.now (Actor.Writing current) result.0 result.1 }
+    ensures transition { WritingTransition A.next ActorStep.Abort whole.now whole.now (writing_value current)
         (actor_value result.0) result.1 }
 {
     let mut current = current;
@@ -303,26 +303,27 @@ pub(crate) fn act_writing<A: App, C: Cacheable>(
     alloc: Global,
     ports: &mut Ports<A>,
     current: OpenRw<A, C>,
-    act: &Act,
+    act: &ActorStep,
 ) -> (Actor<A, C>, Reply)
     requires { IsOpenRw A.next ports.old.database.history current }
     ensures acted { IsActed A.next act.now ports.old ports.new (Actor.Writing current) result.0 result.1 }
-    ensures leads { WritingTransition A.next act.now ports.old ports.new (writing_value current)
+    ensures transition { WritingTransition A.next act.now ports.old ports.new (writing_value current)
         (actor_value result.0) result.1 }
 {
     match act {
-        Act::BeginRo(_) | Act::BeginRw => (
+        ActorStep::BeginRo(_) | ActorStep::BeginRw => (
             Actor::Writing(current),
             Reply::Refused(Refusal::AlreadyOpen),
         ),
-        Act::Request => request(alloc, ports, current),
-        Act::Abort => abort(ports, current),
-        Act::Start(_) | Act::Ask(_) | Act::Write(_) | Act::Commit if current.call.is_some() => {
+        ActorStep::Request => request(alloc, ports, current),
+        ActorStep::Abort => abort(ports, current),
+        ActorStep::Start(_) | ActorStep::Ask(_) | ActorStep::Write(_) | ActorStep::Commit
+            if current.call.is_some() => {
             (Actor::Writing(current), Reply::Refused(Refusal::MidCall))
         }
-        Act::Start(key) => start(alloc, ports, current, key),
-        Act::Ask(query) => ask(alloc, ports, current, query),
-        Act::Write(change) => write(alloc, ports, current, change),
-        Act::Commit => commit(alloc, ports, current),
+        ActorStep::Start(key) => start(alloc, ports, current, key),
+        ActorStep::Ask(query) => ask(alloc, ports, current, query),
+        ActorStep::Write(change) => write(alloc, ports, current, change),
+        ActorStep::Commit => commit(alloc, ports, current),
     }
 }

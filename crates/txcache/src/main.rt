@@ -8,9 +8,9 @@ use std::fmt::Display;
 use std::io;
 use std::io::Print;
 use std::process::ExitCode;
-use txc_arguments::{WordsError, read_arguments, read_words};
-use txc_modes::{OwnFault, RunFault, Status, exit_of, run};
-use txc_settings::{Settings, SettingsError};
+use txc_script_settings::{Settings, SettingsError};
+use txcache_arguments::{WordsError, read_arguments, read_words};
+use txcache_run::{OwnFault, RunFault, Status, exit_of, run};
 
 fn main(rt: HostRuntime) -> ExitCode {
     let alloc = rt.alloc();

@@ -1,23 +1,23 @@
 //! Requests in an open transaction.
 ghost use Rattle.std.specs.Prelude.{◌≡◌, None};
 ghost use Rattle.txc_app.specs.declared.ask.Ask.TheVariants as asks;
-ghost use Rattle.txc_c.specs.Telling.{buffer};
+ghost use Rattle.txc_c.specs.SiteReply.{buffer};
 ghost use Rattle.txc_caller.specs.Ports.{HasGrownDatabase};
-ghost use Rattle.txc_caller.specs.Reading.{KeepsCaller};
-ghost use Rattle.txc_caller.specs.Telling.{top_call};
-ghost use Rattle.txc_caller.specs.Writing.{IsWriteOf};
+ghost use Rattle.txc_caller.specs.CallerTxn.{KeepsCaller};
+ghost use Rattle.txc_caller.specs.ComputedFunctions.{top_call};
+ghost use Rattle.txc_caller.specs.CallerWrite.{IsWriteOf};
 ghost use Rattle.txc_c.specs.Opaque.{opaque_next};
 ghost use Rattle.txc_c.specs.Opened.{IsOpenOf, OpenAsksNext};
-ghost use Rattle.txc_c.specs.Asking.{HasReadRowsItself, QueryAct, StepAct};
+ghost use Rattle.txc_c.specs.Calls.{HasReadRowsItself, QueryAct, StepAct};
 
 use crate::numbers::txn_number;
 use crate::opaque::Opaque;
 use crate::opened::Open;
-use crate::telling::tell_step;
+use crate::site_reply::write_step;
 use std::alloc::Global;
 use txc_app::Ask;
+use txc_c_types::ANSWERED;
 use txc_caller::{Caller, CallerWrite};
-use txc_crossing::ANSWERED;
 use txc_rows::Query;
 
 // Reads the rows of a query of a read-write transaction itself, and writes how many they are.
@@ -62,7 +62,7 @@ impl Open {
         ensures grown { HasGrownDatabase caller.old.ports.database caller.new.ports.database }
     {
         let step = self.step(alloc, caller, ask);
-        tell_step(self, step, value, len)
+        write_step(self, step, value, len)
     }
 
     /// Requests the rows of a query: for the function being computed, or for a read-write transaction itself if

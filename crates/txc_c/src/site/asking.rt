@@ -1,24 +1,24 @@
 //! Requests in a transaction of a site.
 ghost use Rattle.txc_app.specs.declared.ask.Ask.TheVariants as asks;
-ghost use Rattle.txc_crossing.specs.Crossing.{named_call};
+ghost use Rattle.txc_c_types.specs.CacheViews.{named_call};
 ghost use Rattle.txc_c.specs.Exports.{SiteAsksNext};
 ghost use Rattle.txc_c.specs.Receipts.{query_of};
-ghost use Rattle.txc_c.specs.Telling.{buffer};
-ghost use Rattle.txc_c.specs.Asking.{CallComesTo, FinishComesTo, GiveUpComesTo, QueryComesTo, StepComesTo};
+ghost use Rattle.txc_c.specs.SiteReply.{buffer};
+ghost use Rattle.txc_c.specs.Calls.{SiteCallTransition, SiteFinishTransition, SiteGiveUpTransition, SiteQueryTransition, SiteStepTransition};
 
 use crate::opened::{acts_leave_others, place_of};
 use crate::receipts::TxcQuery;
 use crate::site::Site;
 use std::alloc::Global;
 use txc_app::{Ask, Bytes};
-use txc_crossing::{BAD_ARGUMENT, DONE, MISS, NO_MEMORY, NOT_OPEN, TxcKey};
+use txc_c_types::{BAD_ARGUMENT, DONE, MISS, NO_MEMORY, NOT_OPEN, TxcKey};
 use txc_rows::Query;
 
 impl Site {
     // Makes a step in the transaction of that number.
     fn step(&mut self, alloc: Global, txn: u64, ask: Ask, value: &mut [u8], len: &mut usize) -> u32
         requires { SiteAsksNext ask txn self.old }
-        ensures { StepComesTo ask (buffer value.old len.old) (buffer value.new len.new) txn self.old result self.new }
+        ensures { SiteStepTransition ask (buffer value.old len.old) (buffer value.new len.new) txn self.old result self.new }
     {
         acts_leave_others();
         let Some(it) = self.opened.get_mut(place_of(txn)) else {
@@ -40,7 +40,7 @@ impl Site {
         len: &mut usize,
     ) -> u32
         requires { SiteAsksNext (asks.Call (named_call key.now)) txn self.old }
-        ensures { CallComesTo key.now (buffer value.old len.old) (buffer value.new len.new) txn self.old result self.new }
+        ensures { SiteCallTransition key.now (buffer value.old len.old) (buffer value.new len.new) txn self.old result self.new }
     {
         let Some(key) = key.key() else {
             return BAD_ARGUMENT;
@@ -57,7 +57,7 @@ impl Site {
         count: &mut usize,
     ) -> u32
         requires { SiteAsksNext (asks.Query (query_of query.now)) txn self.old }
-        ensures { QueryComesTo query.now count.old count.new txn self.old result self.new }
+        ensures { SiteQueryTransition query.now count.old count.new txn self.old result self.new }
     {
         acts_leave_others();
         let Some(query) = query.query() else {
@@ -82,7 +82,7 @@ impl Site {
         len: &mut usize,
     ) -> u32
         requires { SiteAsksNext (asks.Done bytes.now) txn self.old }
-        ensures { FinishComesTo bytes.now (buffer value.old len.old) (buffer value.new len.new) txn self.old result self.new }
+        ensures { SiteFinishTransition bytes.now (buffer value.old len.old) (buffer value.new len.new) txn self.old result self.new }
     {
         let Ok(copy) = bytes.to_vec(alloc) else {
             return NO_MEMORY;
@@ -92,7 +92,7 @@ impl Site {
 
     /// Cancels the whole open call of the transaction.
     pub(crate) fn give_up(&mut self, txn: u64) -> u32
-        ensures { GiveUpComesTo txn self.old result self.new }
+        ensures { SiteGiveUpTransition txn self.old result self.new }
     {
         acts_leave_others();
         let Some(it) = self.opened.get_mut(place_of(txn)) else {

@@ -1,17 +1,17 @@
 //! Changes of a site's read-write transaction.
-ghost use Rattle.txc_c.specs.Asking.{ChangeComesTo, PutComesTo, RemoveComesTo};
+ghost use Rattle.txc_c.specs.Calls.{SiteChangeTransition, SitePutTransition, SiteRemoveTransition};
 
 use crate::opened::{acts_leave_others, place_of};
 use crate::site::Site;
 use std::alloc::Global;
-use txc_crossing::{BAD_ARGUMENT, NO_MEMORY, NOT_OPEN};
+use txc_c_types::{BAD_ARGUMENT, NO_MEMORY, NOT_OPEN};
 use txc_rows::{Change, Row};
 use txc_tags::Table;
 
 impl Site {
     // Buffers a change in the transaction of that number.
     fn change(&mut self, txn: u64, change: Change) -> u32
-        ensures { ChangeComesTo change txn self.old result self.new }
+        ensures { SiteChangeTransition change txn self.old result self.new }
     {
         acts_leave_others();
         let Some(it) = self.opened.get_mut(place_of(txn)) else {
@@ -33,7 +33,7 @@ impl Site {
         group: u32,
         body: &[u8],
     ) -> u32
-        ensures { PutComesTo (record { table = table; id = id; group = group; body = body.now })
+        ensures { SitePutTransition (record { table = table; id = id; group = group; body = body.now })
             txn self.old result self.new }
     {
         let Some(table) = Table::new(table) else {
@@ -50,7 +50,7 @@ impl Site {
 
     /// Buffers the removal of the row at the table and id.
     pub(crate) fn remove(&mut self, txn: u64, table: u8, id: u32) -> u32
-        ensures { RemoveComesTo table id txn self.old result self.new }
+        ensures { SiteRemoveTransition table id txn self.old result self.new }
     {
         let Some(table) = Table::new(table) else {
             return BAD_ARGUMENT;

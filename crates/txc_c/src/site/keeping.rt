@@ -1,7 +1,7 @@
 //! Maintenance of a site, whatever is open, and pins for later transactions.
 ghost use Rattle.txc_caller.specs.Ports.{HasGrownDatabase};
-ghost use Rattle.txc_caller.specs.Reading.{KeepsCaller};
-ghost use Rattle.txc_c.specs.Keeping.{HasKept, KeepComesTo, PinComesTo};
+ghost use Rattle.txc_caller.specs.CallerTxn.{KeepsCaller};
+ghost use Rattle.txc_c.specs.Maintenance.{HasKept, SiteKeepTransition, SitePinTransition};
 
 use crate::kept::TxcKept;
 use crate::numbers::{database_number, node_number, pin_number};
@@ -9,8 +9,8 @@ use crate::opaque::Opaque;
 use crate::opened::acts_leave_others;
 use crate::site::Site;
 use std::alloc::Global;
+use txc_c_types::{DONE, NO_MEMORY};
 use txc_caller::Caller;
-use txc_crossing::{DONE, NO_MEMORY};
 
 // Retires pins; lets the node take the events; lets the database drop the versions that no stamp from the
 // horizon on needs; then lets the node drop the entries that end there.
@@ -41,7 +41,7 @@ fn keep(alloc: Global, caller: &mut Caller<Opaque>, now: u64, age: u64, kept: &m
 impl Site {
     /// Runs the maintenance, whatever is open.
     pub(crate) fn keep(&mut self, alloc: Global, now: u64, age: u64, kept: &mut TxcKept) -> u32
-        ensures { KeepComesTo now age kept.old kept.new self.old result self.new }
+        ensures { SiteKeepTransition now age kept.old kept.new self.old result self.new }
     {
         acts_leave_others();
         keep(alloc, &mut self.caller, now, age, kept)
@@ -49,7 +49,7 @@ impl Site {
 
     /// Pins the newest state, and writes its stamp.
     pub(crate) fn pin(&mut self, alloc: Global, moment: u64, stamp: &mut u32) -> u32
-        ensures { PinComesTo moment stamp.old stamp.new self.old result self.new }
+        ensures { SitePinTransition moment stamp.old stamp.new self.old result self.new }
     {
         acts_leave_others();
         match self.caller.pin(alloc, moment) {

@@ -1,14 +1,14 @@
 //! The open transactions of a site, and their results.
-ghost use Rattle.txc_c.specs.Asking.{LastOf, MemberOf, ReadStampOf, RowOf};
-ghost use Rattle.txc_c.specs.Listing.{CountTold, IsLeastOpen, OldestTold};
+ghost use Rattle.txc_c.specs.Calls.{LastOf, MemberOf, ReadStampOf, RowOf};
+ghost use Rattle.txc_c.specs.OpenTransactions.{CountTold, IsLeastOpen, OldestTold};
 ghost use Rattle.txc_c.specs.Sites.{open_at};
-ghost use Rattle.txc_c.specs.Telling.{buffer};
+ghost use Rattle.txc_c.specs.SiteReply.{buffer};
 
 use crate::opened::Open;
 use crate::receipts::TxcRow;
 use crate::site::Site;
-use crate::telling::{rows_found, tell_last};
-use txc_crossing::{DONE, MISS, NOT_OPEN, tell};
+use crate::site_reply::{rows_found, write_last};
+use txc_c_types::{DONE, MISS, NOT_OPEN, write_value};
 
 impl Site {
     /// Writes one of the rows that the transaction read last.
@@ -29,7 +29,7 @@ impl Site {
         match rows_found(it).get(at) {
             Some(found) => {
                 *row = TxcRow::of(found);
-                tell(DONE, found.body(), body, len)
+                write_value(DONE, found.body(), body, len)
             }
             None => MISS,
         }
@@ -40,7 +40,7 @@ impl Site {
         ensures { LastOf (buffer value.old len.old) (buffer value.new len.new) (open_at self.now txn) result }
     {
         match self.opened(txn) {
-            Some(it) => tell_last(it, value, len),
+            Some(it) => write_last(it, value, len),
             None => NOT_OPEN,
         }
     }

@@ -2,16 +2,16 @@
 ghost use Rattle.std.specs.Prelude.{◌≡◌, is_some, IfErr, IfSome, OnOk};
 ghost use Rattle.slab.specs.Slab.{HasRoomFor};
 ghost use Rattle.txc_c.specs.Sites.{HasMadeRoom, IsNoRoom, IsPlaced, IsPutBack, IsTakenOut};
-ghost use Rattle.txc_c.specs.Turning.{is_site_stamp, AbortComesTo, BeginComesTo, BeginWriteAtComesTo, BeginWriteComesTo, CommitComesTo, CommitWriteComesTo};
+ghost use Rattle.txc_c.specs.BeginAndEnd.{is_site_stamp, SiteAbortTransition, SiteBeginTransition, SiteBeginWriteAtTransition, SiteBeginWriteTransition, SiteCommitTransition, SiteCommitWriteTransition};
 
 use crate::numbers::{database_number, write_number};
 use crate::opened::{MAX_OPEN, Open, Opened, acts_leave_others, add, place_of};
 use crate::receipts::TxcReceipt;
 use crate::site::Site;
 use std::alloc::Global;
-use txc_crossing::{BAD_ARGUMENT, DONE, MID_CALL, NO_MEMORY, NOT_OPEN, REFUSED};
-use txc_ports::Bounds;
+use txc_c_types::{BAD_ARGUMENT, DONE, MID_CALL, NO_MEMORY, NOT_OPEN, REFUSED};
 use txc_stamp::{MOST_STAMP, Stamp};
+use txc_txn_ports::Bounds;
 
 // Returns a stamp of a site, or `None` if the number is above its limit.
 fn site_stamp(number: u32) -> Option<Stamp>
@@ -53,7 +53,7 @@ impl Site {
         at_least: u32,
         txn: &mut u64,
     ) -> u32
-        ensures { BeginComesTo now staleness at_least txn.old txn.new self.old result self.new }
+        ensures { SiteBeginTransition now staleness at_least txn.old txn.new self.old result self.new }
     {
         let Some(at_least) = site_stamp(at_least) else {
             return BAD_ARGUMENT;
@@ -77,7 +77,7 @@ impl Site {
 
     /// Begins a read-write transaction at the newest state, and writes its number.
     pub(crate) fn begin_write(&mut self, alloc: Global, txn: &mut u64) -> u32
-        ensures { BeginWriteComesTo txn.old txn.new self.old result self.new }
+        ensures { SiteBeginWriteTransition txn.old txn.new self.old result self.new }
     {
         acts_leave_others();
         if let Err(number) = self.make_room() {
@@ -94,7 +94,7 @@ impl Site {
 
     /// Begins a read-write transaction at the state of that stamp, and writes its number.
     pub(crate) fn begin_write_at(&mut self, alloc: Global, stamp: u32, txn: &mut u64) -> u32
-        ensures { BeginWriteAtComesTo stamp txn.old txn.new self.old result self.new }
+        ensures { SiteBeginWriteAtTransition stamp txn.old txn.new self.old result self.new }
     {
         let Some(base) = site_stamp(stamp) else {
             return BAD_ARGUMENT;
@@ -131,7 +131,7 @@ impl Site {
 
     /// Ends the read-only transaction, and writes its receipt.
     pub(crate) fn commit(&mut self, txn: u64, receipt: &mut TxcReceipt) -> u32
-        ensures { CommitComesTo receipt.old receipt.new txn self.old result self.new }
+        ensures { SiteCommitTransition receipt.old receipt.new txn self.old result self.new }
     {
         acts_leave_others();
         match self.opened(txn) {
@@ -160,7 +160,7 @@ impl Site {
 
     /// Commits the changes of the read-write transaction, and writes the newest stamp.
     pub(crate) fn commit_write(&mut self, alloc: Global, txn: u64, stamp: &mut u32) -> u32
-        ensures { CommitWriteComesTo stamp.old stamp.new txn self.old result self.new }
+        ensures { SiteCommitWriteTransition stamp.old stamp.new txn self.old result self.new }
     {
         acts_leave_others();
         match self.opened(txn) {
@@ -191,7 +191,7 @@ impl Site {
 
     /// Aborts the transaction.
     pub(crate) fn abort(&mut self, txn: u64) -> u32
-        ensures { AbortComesTo txn self.old result self.new }
+        ensures { SiteAbortTransition txn self.old result self.new }
     {
         acts_leave_others();
         let Some(Opened { number: _, txn }) = self.take_out(txn) else {

@@ -4,8 +4,8 @@ ghost use Rattle.txc_cushion.specs.Cushion.{retired};
 ghost use Rattle.txc_db.specs.DatabaseValue.{next_horizon};
 ghost use Rattle.txc_caller.specs.Ports.{totals_of, CallerSweepTransition, CallerTrimTransition, GoesOnByEvents, HasGrownDatabase, HasRetired, HasVacuumedPorts, IsKeepRefused};
 ghost use Rattle.txc_caller.specs.Budgets.{IsInBudget};
-ghost use Rattle.txc_caller.specs.Reading.{KeepsCaller};
-ghost use Rattle.txc_caller.specs.Pinning.{HasNotPinned, HasPinnedNewest};
+ghost use Rattle.txc_caller.specs.CallerTxn.{KeepsCaller};
+ghost use Rattle.txc_caller.specs.SparePins.{HasNotPinned, HasPinnedNewest};
 
 use crate::caller::Caller;
 use crate::nodes::NodeTotals;
@@ -51,7 +51,7 @@ impl<A: App> Caller<A> {
     /// Drops the node's entries whose span ends at the horizon or before it, and returns how many. Fails if the
     /// node is broken, its history is full, or memory cannot be allocated.
     pub fn sweep(&mut self, alloc: Global, horizon: Stamp) -> Result<usize, NodeError>
-        ensures leads { CallerSweepTransition horizon self.old.ports.node self.new.ports.node result }
+        ensures transition { CallerSweepTransition horizon self.old.ports.node self.new.ports.node result }
         ensures same { self.new ≡ record self.old { ports = record self.old.ports { node = self.new.ports.node } } }
         ensures caller { KeepsCaller self.old self.new }
         ensures grown { HasGrownDatabase self.old.ports.database self.new.ports.database }
@@ -62,7 +62,7 @@ impl<A: App> Caller<A> {
     /// Trims the node to the longest prefix of its entries, the most recently used first, whose values have at
     /// most `most` bytes in all. Returns the number of entries dropped. Fails as [`Caller::sweep`] does.
     pub fn trim(&mut self, alloc: Global, most: usize) -> Result<usize, NodeError>
-        ensures leads { CallerTrimTransition most self.old.ports.node self.new.ports.node result }
+        ensures transition { CallerTrimTransition most self.old.ports.node self.new.ports.node result }
         ensures same { self.new ≡ record self.old { ports = record self.old.ports { node = self.new.ports.node } } }
         ensures caller { KeepsCaller self.old self.new }
         ensures grown { HasGrownDatabase self.old.ports.database self.new.ports.database }

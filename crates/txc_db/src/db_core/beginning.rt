@@ -11,12 +11,12 @@ use crate::history::History;
 use std::alloc::Global;
 use txc_rows::{net_changes_are_differences, states_are_maps};
 use txc_stamp::Stamp;
-use txc_stream::{Draft, Drafts, Pen};
+use txc_stream::{AppendToken, GhostRecord, GhostRecords};
 
 /// The event that makes the newest state of a database.
 pub(crate) struct AsState;
 
-impl Drafts<DbCore, Event> for AsState {
+impl GhostRecords<DbCore, Event> for AsState {
     ghost use Rattle.txc_db.specs.DatabaseValue.{newest_state};
     ghost use Rattle.txc_db.specs.History.{state_event};
 
@@ -30,7 +30,7 @@ impl DbCore {
     ///
     /// The new history can be read from that event on. Fails if the store has used half of its stamps or of its
     /// places.
-    pub fn begin_anew(&mut self, alloc: Global, pen: Pen<Event>) -> Result<(), DbError>
+    pub fn begin_anew(&mut self, alloc: Global, pen: AppendToken<Event>) -> Result<(), DbError>
         requires { pen.list ≡ [] }
         ensures after { OnOk result (self.new ≡ begun_anew self.old (unstored pen.number)) }
         ensures state { OnOk result (newest_state self.new ≡ newest_state self.old) }
@@ -44,7 +44,7 @@ impl DbCore {
             return Err(DbError::Broken);
         }
         let newest = self.told.newest();
-        let draft = Draft::of::<DbCore, AsState>(self);
+        let draft = GhostRecord::of::<DbCore, AsState>(self);
         self.store.begin_at(newest)?;
         self.told = History::begun(alloc, pen, draft);
         self.horizon = Stamp::after(1);

@@ -9,7 +9,7 @@ ghost use Rattle.txc_rows.specs.Versions.{after_net};
 ghost use Rattle.txc_db.specs.DatabaseValue.{DatabaseValue, after_commit, after_event_of, newest, newest_net, newest_state};
 ghost use Rattle.txc_db.specs.History.{commit_event};
 ghost use Rattle.txc_db.specs.Facts.{commit};
-ghost use Rattle.txc_db.specs.NetWith.{IsNetWith};
+ghost use Rattle.txc_db.specs.NetGrowth.{IsNetWith};
 ghost use Rattle.txc_db.specs.Refusals.{IsConflict, NoneMatches};
 ghost use Rattle.txc_db.specs.Calls.{IsLeft, IsBase, AreFewNamed, row_query, matching_of, IsCommittable, IsCommitRefused};
 ghost use Rattle.txc_db.specs.Room.{events_room};

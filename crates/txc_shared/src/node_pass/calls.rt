@@ -9,7 +9,7 @@ ghost use Rattle.txc_node.specs.Steps.{found_reply};
 ghost use Rattle.txc_app.specs.Claims.{IsTrueIn, entry_shown};
 ghost use Rattle.txc_shared.specs.Passes.{IsLegalOver, HasGrown, GrowsByOthers, HasMade, HasInserted, HasTaken, IsPassLeft};
 ghost use Rattle.txc_shared.specs.Refusals.{IsLookupRefused, IsStepRefused, IsTidyRefused, IsTakingRefused, IsCountRefused, IsRefusedThrough, NodeMayRefuse};
-ghost use Rattle.txc_shared.specs.Together.{HasTakenMany, StandTogether};
+ghost use Rattle.txc_shared.specs.EventBatch.{HasTakenMany, StandTogether};
 
 use crate::advanced::{Advanced, Ended, MAX_TOGETHER};
 use crate::error::NodeError;
@@ -19,8 +19,8 @@ use crate::shared_node::SharedNode;
 use std::alloc::Global;
 use std::sync::Wait;
 use txc_app::App;
-use txc_db::{Answered, HistoryFront, Naming, lock_soon};
-use txc_node::{Counts, Entry, Shown};
+use txc_db::{Answered, HistoryFront, Naming, lock_spinning};
+use txc_node::{Counts, Entry, HitValue};
 use txc_stamp::Stamp;
 use txc_tags::Key;
 
@@ -40,7 +40,7 @@ impl<J: Naming> NodePass<J> {
         ensures refused { IfErr result
             (NodeMayRefuse J.node_histories (λ n. IsRefusedThrough IsCountRefused n self.old)) }
     {
-        let counts = lock_soon(rt, &node.lock).node_counts(self);
+        let counts = lock_spinning(rt, &node.lock).node_counts(self);
         self.is_legal();
         counts
     }
@@ -56,7 +56,7 @@ impl<J: Naming> NodePass<J> {
         key: &Key,
         lo: Stamp,
         hi: Stamp,
-    ) -> Result<Option<Answered<Shown>>, NodeError>
+    ) -> Result<Option<Answered<HitValue>>, NodeError>
         ensures longer { HasGrown self.old self.new }
         ensures legal { IsLegalOver J.database_history self.new.history self.new.settings self.new.records }
         ensures made { IfOk result (λ found.
@@ -69,7 +69,7 @@ impl<J: Naming> NodePass<J> {
         ensures refused { IfErr result
             (NodeMayRefuse J.node_histories (λ n. IsRefusedThrough (λ m. IsLookupRefused m lo hi) n self.old)) }
     {
-        let found = lock_soon(rt, &node.lock).lookup(alloc, self, key, lo, hi);
+        let found = lock_spinning(rt, &node.lock).lookup(alloc, self, key, lo, hi);
         self.is_legal();
         found
     }
@@ -93,7 +93,7 @@ impl<J: Naming> NodePass<J> {
         ensures refused { IfErr result
             (NodeMayRefuse J.node_histories (λ n. IsRefusedThrough IsStepRefused n self.old)) }
     {
-        let insertion = lock_soon(rt, &node.lock).insert(alloc, self, entry, front);
+        let insertion = lock_spinning(rt, &node.lock).insert(alloc, self, entry, front);
         self.is_legal();
         insertion
     }
@@ -114,7 +114,7 @@ impl<J: Naming> NodePass<J> {
         ensures refused { IfErr result
             (NodeMayRefuse J.node_histories (λ n. IsRefusedThrough IsTakingRefused n self.old)) }
     {
-        let advanced = lock_soon(rt, &node.lock).advance(rt, alloc, self);
+        let advanced = lock_spinning(rt, &node.lock).advance(rt, alloc, self);
         self.is_legal();
         advanced
     }
@@ -133,7 +133,7 @@ impl<J: Naming> NodePass<J> {
         ensures taken { HasTakenMany J.database_history J.node_histories MAX_TOGETHER self.old result.0 result.1 self.new }
         ensures together { StandTogether self.old.pass result.0 self.old.records self.new.records }
     {
-        let did = lock_soon(rt, &node.lock).advance_many(rt, alloc, self);
+        let did = lock_spinning(rt, &node.lock).advance_many(rt, alloc, self);
         self.is_legal();
         did
     }
@@ -155,7 +155,7 @@ impl<J: Naming> NodePass<J> {
         ensures refused { IfErr result
             (NodeMayRefuse J.node_histories (λ n. IsRefusedThrough IsTidyRefused n self.old)) }
     {
-        let count = lock_soon(rt, &node.lock).sweep(alloc, self, horizon);
+        let count = lock_spinning(rt, &node.lock).sweep(alloc, self, horizon);
         self.is_legal();
         count
     }
@@ -176,7 +176,7 @@ impl<J: Naming> NodePass<J> {
         ensures refused { IfErr result
             (NodeMayRefuse J.node_histories (λ n. IsRefusedThrough IsTidyRefused n self.old)) }
     {
-        let count = lock_soon(rt, &node.lock).trim(alloc, self, most);
+        let count = lock_spinning(rt, &node.lock).trim(alloc, self, most);
         self.is_legal();
         count
     }

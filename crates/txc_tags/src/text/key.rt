@@ -3,8 +3,8 @@ ghost use Rattle.std.specs.Prelude.{◌≡◌, ◌<◌, ◌↔◌, [], IsOk, IfO
 ghost use Rattle.txc_tags.specs.Keys.{Call};
 ghost use Rattle.txc_tags.specs.TextGrammar.{IsText, IsTextOf, IsLongestPrefix};
 ghost use Rattle.txc_tags.specs.TextKey.{key_text, IsKeyInRange};
-ghost use Rattle.txc_tags.specs.TextKeyReading.{closed_text, AreArguments, AreSome};
-ghost use Rattle.txc_tags.specs.TextReading.{IsRefused};
+ghost use Rattle.txc_tags.specs.TextKeyReader.{closed_text, AreArguments, AreSome};
+ghost use Rattle.txc_tags.specs.TextReader.{IsRefused};
 
 use crate::key::{Arguments, Key, LAST_FUNCTION, MAX_ARGS};
 use crate::text::number::{LAST_NUMBER, read_digits, read_numbered};

@@ -3,7 +3,7 @@ ghost use Rattle.std.specs.Prelude.{◌≡◌, ℕ, ◌≤◌, [], ◌∷◌, �
 ghost use Rattle.std.specs.Fmt.{decimal};
 ghost use Rattle.txc_tags.specs.TextGrammar.{IsTextOf, IsText};
 ghost use Rattle.txc_tags.specs.TextNumber.{digits_read, IsDigit};
-ghost use Rattle.txc_tags.specs.TextReading.{GoesWrong, IsNumber, IsNumbered, Reads};
+ghost use Rattle.txc_tags.specs.TextReader.{GoesWrong, IsNumber, IsNumbered, Reads};
 
 use crate::text::read::read_word;
 

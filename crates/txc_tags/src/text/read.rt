@@ -2,7 +2,7 @@
 //! it. If the text goes wrong, it returns the rest from the first byte that no text of the grammar can have
 //! there.
 ghost use Rattle.std.specs.Prelude.{◌≡◌, ◌≤◌, ◌⊎◌, IfOk, IfErr, length};
-ghost use Rattle.txc_tags.specs.TextReading.{GoesWrong, IsWord, Reads};
+ghost use Rattle.txc_tags.specs.TextReader.{GoesWrong, IsWord, Reads};
 
 /// Returns the text after the word. If the text does not begin with the word, returns the rest from where it
 /// goes wrong.

@@ -3,7 +3,7 @@ ghost use Rattle.std.specs.Prelude.{◌≡◌, ℕ, ◌∷◌, List, None, codes
 ghost use Rattle.txc_tags.specs.declared.tag.Tag.{Tag};
 ghost use Rattle.txc_tags.specs.Tags.{with_tag, IsCanonical};
 ghost use Rattle.txc_tags.specs.TextGrammar.{IsText, IsTextOf};
-ghost use Rattle.txc_tags.specs.TextReading.{IsRefused};
+ghost use Rattle.txc_tags.specs.TextReader.{IsRefused};
 ghost use Rattle.txc_tags.specs.TextSet.{tags_text, spelt_tags_text, AreTagsInRange, AreSpeltInRange, IsSetOfText, IsSetRefusal};
 
 use crate::set::TagSet;

@@ -1,9 +1,9 @@
 //! Texts of tags: `t1:?`, `t1:id=7`, `t1:grp=2`; or `1/?`, `1/id/7`, `1/grp/2`.
 ghost use Rattle.std.specs.Prelude.{◌≡◌, ◌≤◌, ◌++◌, ◌↔◌, IsOk, IfOk, IfErr, string_bytes};
 ghost use Rattle.txc_tags.specs.TextGrammar.{IsText, IsTextOf, IsLongestPrefix};
-ghost use Rattle.txc_tags.specs.TextReading.{GoesWrong, IsRefused, Reads};
+ghost use Rattle.txc_tags.specs.TextReader.{GoesWrong, IsRefused, Reads};
 ghost use Rattle.txc_tags.specs.TextTag.{opening, all_word, id_word, group_word, rows_text, spelled, tag_text, spelt_text, AreRowsInRange, IsTagInRange, IsSpeltInRange, IsTextOfTag};
-ghost use Rattle.txc_tags.specs.TextTagReading.{IsRows, IsSpelled};
+ghost use Rattle.txc_tags.specs.TextTagReader.{IsRows, IsSpelled};
 ghost use Rattle.txc_tags.specs.declared.text.tag.Spelling.{Spelling};
 
 use crate::tag::{LAST_TABLE, Rows, Table, Tag};

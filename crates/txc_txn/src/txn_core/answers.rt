@@ -2,7 +2,7 @@
 ghost use Rattle.std.specs.Prelude.{◌≡◌};
 ghost use Rattle.std.specs.Option.{ForSome};
 ghost use mathlib.Core.List.{IsPrefix};
-ghost use Rattle.txc_ports.specs.Fronts.{front_of_reply};
+ghost use Rattle.txc_txn_ports.specs.Fronts.{front_of_reply};
 
 use crate::pinning::{PinStep, Pinning};
 use crate::txn_core::TxnCore;
@@ -10,16 +10,16 @@ use std::alloc::Global;
 use std::mem;
 use txc_app::App;
 use txc_call::Reply;
+use txc_call_registry::{Cacheable, Registry};
 use txc_cushion::{AddError, pin_of};
 use txc_db::{Answered, DbError, Pinned};
-use txc_node::{Shown, Value};
-use txc_ports::{PortReply, PortRequest, Turn, TxnError};
-use txc_registry::{Cacheable, Registry};
+use txc_node::{HitValue, Value};
+use txc_txn_ports::{PortReply, PortRequest, Turn, TxnError};
 use txc_validity::Found;
 
 impl TxnCore {
-    ghost use Rattle.txc_txn.specs.Core.{value_of, IsAnswered, IsCore, IsOneOf};
-    ghost use Rattle.txc_txn.specs.Kept.{HasAnswered};
+    ghost use Rattle.txc_txn.specs.TxnCore.{value_of, IsAnswered, IsCore, IsOneOf};
+    ghost use Rattle.txc_txn.specs.RunningTxn.{HasAnswered};
 
     // Takes over the history in the reply.
     pub(crate) fn see(&mut self, reply: &PortReply)
@@ -120,7 +120,7 @@ impl TxnCore {
         &mut self,
         alloc: Global,
         registry: &mut Registry<A, C>,
-        hit: Option<Answered<Shown>>,
+        hit: Option<Answered<HitValue>>,
     ) -> Turn<PortRequest, Value>
         requires fits { IsCore A.next registry.old (value_of self.old) }
         requires reply { IsAnswered (value_of self.old) (PortReply.Lookup hit) }

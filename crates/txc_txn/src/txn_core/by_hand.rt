@@ -9,22 +9,22 @@ ghost use Rattle.txc_db.specs.History.{History, state_at};
 ghost use Rattle.txc_pinset.specs.Members.{choice_of};
 ghost use Rattle.txc_node.specs.declared.value.TheConstants.{MOST_VALUE_LEN};
 ghost use Rattle.txc_app.specs.declared.app.TheConstants.{MOST_ASKS};
-ghost use Rattle.txc_app.specs.Answering.{IsRight};
+ghost use Rattle.txc_app.specs.AnswersSoFar.{IsRight};
 ghost use Rattle.txc_app.specs.declared.ask.Ask.{Ask};
 ghost use Rattle.txc_app.specs.Eval.{Next};
-ghost use Rattle.txc_registry.specs.Objects.{AllIdle, Objects};
+ghost use Rattle.txc_call_registry.specs.Objects.{AllIdle, Objects};
 ghost use Rattle.txc_call.specs.declared.frame.Frame.{Frame};
 ghost use Rattle.txc_call.specs.declared.need.HeldAnswer.{HeldAnswer};
 ghost use Rattle.txc_call.specs.declared.need.Need.{Need};
 ghost use Rattle.txc_call.specs.Frames.{answers_in};
 ghost use Rattle.txc_call.specs.Needs.{reply_reach, ReplyFits, ReplyHolds};
 ghost use Rattle.txc_call.specs.Reaches.{InReach};
-ghost use Rattle.txc_call.specs.Calling.{started};
-ghost use Rattle.txc_call.specs.Running.{due_ask, objects_after, with_resumed, FunctionExists, NeedsFunction};
-ghost use Rattle.txc_ports.specs.Fronts.{front_of_reply};
+ghost use Rattle.txc_call.specs.CallMachine.{started};
+ghost use Rattle.txc_call.specs.CallSteps.{due_ask, objects_after, with_resumed, FunctionExists, NeedsFunction};
+ghost use Rattle.txc_txn_ports.specs.Fronts.{front_of_reply};
 
 use crate::pinning::{PinStep, Pinning};
-use crate::receipt::Left;
+use crate::receipt::Unfinished;
 use crate::txn_core::TxnCore;
 use std::alloc::Global;
 use txc_app::{Answer, Ask, Limits};
@@ -32,15 +32,15 @@ use txc_call::{CallMachine, Need, Reply};
 use txc_db::DbError;
 use txc_node::Value;
 use txc_pinset::Choice;
-use txc_ports::{PortReply, PortRequest, Turn, TxnError};
 use txc_stamp::Stamp;
 use txc_tags::Key;
+use txc_txn_ports::{PortReply, PortRequest, Turn, TxnError};
 
 impl TxnCore {
-    ghost use Rattle.txc_txn.specs.Core.{first_call, left_pin, open_call, value_of, CoreHolds, IsAnswered};
-    ghost use Rattle.txc_txn.specs.Core.{IsCore, IsIdle, IsNoAdding, IsNoValue, IsRightPortReply, IsTurn, WaitsForPin};
-    ghost use Rattle.txc_ports.specs.Turns.{IsAsk, PortTurn};
-    ghost use Rattle.txc_txn.specs.Kept.{txn_value, HasBegunCall};
+    ghost use Rattle.txc_txn.specs.TxnCore.{first_call, left_pin, open_call, value_of, CoreHolds, IsAnswered};
+    ghost use Rattle.txc_txn.specs.TxnCore.{IsCore, IsIdle, IsNoAdding, IsNoValue, IsRightPortReply, IsTurn, WaitsForPin};
+    ghost use Rattle.txc_txn_ports.specs.Turns.{IsAsk, PortTurn};
+    ghost use Rattle.txc_txn.specs.RunningTxn.{txn_value, HasBegunCall};
     ghost use Rattle.txc_txn.specs.Transitions.{AsksPin, BeginTransition, IsBeyond};
     ghost use Rattle.txc_txn.specs.ByHand.{standing_of, recorded_by_hand, FirstExists, HandTransition, HasAskedByHand, HasGoneOnByHand};
     ghost use Rattle.txc_txn.specs.ByHand.{IsHandTurn, IsUnended, ObjectsLeft, TakeTransition};
@@ -118,7 +118,7 @@ impl TxnCore {
         ensures recorded { self.new.recorded.items
             ≡ recorded_by_hand self.old.recorded.items result (Some self.old.machine.top) }
         ensures goes_on { IsUnended result → open_call (value_of self.new) ≡ Some self.old.machine.top }
-        ensures leads { (objects : Objects) → HandTransition (standing_of self.old.machine objects)
+        ensures transition { (objects : Objects) → HandTransition (standing_of self.old.machine objects)
             (value_of self.new) result }
         ensures rests { ((k : Call) → self.old.machine.need ≢ Some (Need.Lookup k))
             → ((q : Query) → self.old.machine.need ≢ Some (Need.Query q))
@@ -179,7 +179,7 @@ impl TxnCore {
         ensures asks { IsAsk result }
         ensures no_add { IsNoAdding result }
         ensures begins { open_call (value_of self.new) ≡ Some key }
-        ensures leads { (objects : Objects) → FunctionExists objects (Ask.Call key)
+        ensures transition { (objects : Objects) → FunctionExists objects (Ask.Call key)
             → BeginTransition (value_of self.old) objects key (value_of self.new) objects result }
         ensures same { value_of self.new
             ≡ record (value_of self.old) { call = started key; pinning = None } }
@@ -235,7 +235,7 @@ impl TxnCore {
             ≡ recorded_by_hand self.old.recorded.items result (Some self.old.machine.top) }
         ensures goes_on { IsUnended result → open_call (value_of self.new) ≡ Some self.old.machine.top }
         ensures rests { IfSome result (λ turn. ¬ (IsAsk turn)) }
-        ensures leads { (need : Need) → self.old.machine.need ≡ Some need
+        ensures transition { (need : Need) → self.old.machine.need ≡ Some need
             → TakeTransition (value_of self.old) need reply (value_of self.new) result }
         ensures same { value_of self.new ≡ record (value_of self.old) {
           recorded = self.new.recorded.items;
@@ -326,7 +326,7 @@ impl TxnCore {
 
     /// Cancels the transaction, also in the middle of a call, and returns the remaining work. Does not
     /// allocate.
-    pub fn cancel_by_hand(self) -> Left
+    pub fn cancel_by_hand(self) -> Unfinished
         ensures give_back { result.give_back.items ≡ (value_of self).taken }
         ensures unpin { result.unpin ≡ left_pin (value_of self).pinning }
     {
@@ -334,7 +334,7 @@ impl TxnCore {
             Some(pinning) => pinning.left(),
             None => None,
         };
-        Left {
+        Unfinished {
             give_back: self.taken,
             unpin,
         }

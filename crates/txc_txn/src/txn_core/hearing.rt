@@ -8,14 +8,14 @@ use std::mem;
 use txc_call::Reply;
 use txc_cushion::{AddError, pin_of};
 use txc_db::{Answered, DbError, Pinned};
-use txc_node::{Shown, Value};
-use txc_ports::{PortReply, PortRequest, Turn};
+use txc_node::{HitValue, Value};
+use txc_txn_ports::{PortReply, PortRequest, Turn};
 use txc_validity::Found;
 
 impl TxnCore {
     ghost use Rattle.txc_app.specs.Eval.{Next};
-    ghost use Rattle.txc_registry.specs.Objects.{Objects};
-    ghost use Rattle.txc_txn.specs.Core.{value_of, IsAnswered, IsCore};
+    ghost use Rattle.txc_call_registry.specs.Objects.{Objects};
+    ghost use Rattle.txc_txn.specs.TxnCore.{value_of, IsAnswered, IsCore};
     ghost use Rattle.txc_txn.specs.ByHand.{HasHeard};
 
     // Continues after the present was pinned, or was not.
@@ -88,7 +88,7 @@ impl TxnCore {
     fn hear_lookup(
         &mut self,
         alloc: Global,
-        hit: Option<Answered<Shown>>,
+        hit: Option<Answered<HitValue>>,
     ) -> Option<Turn<PortRequest, Value>>
         requires fits { (next : Next) × (objects : Objects) × IsCore next objects (value_of self.old) }
         requires reply { IsAnswered (value_of self.old) (PortReply.Lookup hit) }

@@ -5,37 +5,37 @@ ghost use Rattle.txc_stamp.specs.declared.stamp.TheConstants.{MOST_STAMP};
 ghost use Rattle.txc_tags.specs.Keys.{Call};
 ghost use Rattle.txc_rows.specs.declared.query.Query.{Query};
 ghost use Rattle.txc_db.specs.History.{History};
-ghost use Rattle.txc_cushion.specs.Pinning.{pin_of};
+ghost use Rattle.txc_cushion.specs.Pin.{pin_of};
 ghost use Rattle.txc_pinset.specs.Members.{choice_of, kept, with_present};
 ghost use Rattle.txc_call.specs.declared.need.Need.{Need};
 ghost use Rattle.txc_call.specs.declared.need.Outcome.{Outcome};
 ghost use Rattle.txc_call.specs.Needs.{reply_reach, ReplyFits, ReplyHolds};
 ghost use Rattle.txc_call.specs.Reaches.{InReach};
-ghost use Rattle.txc_call.specs.Running.{NeedsFunction};
+ghost use Rattle.txc_call.specs.CallSteps.{NeedsFunction};
 ghost use Rattle.txc_app.specs.Eval.{Next};
-ghost use Rattle.txc_registry.specs.Objects.{numbers_of, Objects};
-ghost use Rattle.txc_ports.specs.Answers.{IsFresh};
+ghost use Rattle.txc_call_registry.specs.Objects.{numbers_of, Objects};
+ghost use Rattle.txc_txn_ports.specs.Answers.{IsFresh};
 
 use crate::pinning::{PinStep, Pinning};
 use crate::txn_core::TxnCore;
 use std::alloc::Global;
 use txc_app::App;
 use txc_call::{Need, Outcome, Reply};
+use txc_call_registry::{Cacheable, Registry};
 use txc_cushion::pin_of;
 use txc_db::{DbError, Pinned};
 use txc_node::Value;
 use txc_pinset::{Choice, WouldEmpty};
-use txc_ports::{PortRequest, Recorded, Turn, TxnError};
-use txc_registry::{Cacheable, Registry};
 use txc_stamp::{Reach, Stamp};
 use txc_tags::Key;
+use txc_txn_ports::{PortRequest, Recorded, Turn, TxnError};
 
 impl TxnCore {
-    ghost use Rattle.txc_txn.specs.Core.{least_present, open_call, recorded_after, value_of, CoreHolds};
-    ghost use Rattle.txc_txn.specs.Core.{IsCore, IsIdle, IsNarrowed, IsNoValue};
-    ghost use Rattle.txc_txn.specs.Kept.{HasTurned};
-    ghost use Rattle.txc_ports.specs.Turns.{IsAsk};
-    ghost use Rattle.txc_txn.specs.Core.{WaitsForPin};
+    ghost use Rattle.txc_txn.specs.TxnCore.{least_present, open_call, recorded_after, value_of, CoreHolds};
+    ghost use Rattle.txc_txn.specs.TxnCore.{IsCore, IsIdle, IsNarrowed, IsNoValue};
+    ghost use Rattle.txc_txn.specs.RunningTxn.{HasTurned};
+    ghost use Rattle.txc_txn_ports.specs.Turns.{IsAsk};
+    ghost use Rattle.txc_txn.specs.TxnCore.{WaitsForPin};
     ghost use Rattle.txc_txn.specs.Transitions.{AsksLookup, AsksPin, BeginTransition, CallTransition, IsBeyond, NeedTransition, StandsStill};
 
     // Returns the least stamp that a pin of the present may have, or `None` if that is beyond the last stamp.
@@ -126,7 +126,7 @@ impl TxnCore {
             → CoreHolds next L objects (value_of self.new) }
         ensures need { self.new.machine.need ≡ None }
         ensures ended { ¬ (IsAsk result) }
-        ensures leads { (objects objects' : Objects)
+        ensures transition { (objects objects' : Objects)
             → NeedTransition (value_of self.old) objects (value_of self.new) objects' result }
         ensures recorded { (next : Next) (objects : Objects) → IsCore next objects (value_of self.old)
             → self.new.recorded.items
@@ -171,7 +171,7 @@ impl TxnCore {
             ≡ recorded_after self.old.recorded.items result (Some self.old.machine.top) }
         ensures goes_on { IsAsk result → open_call (value_of self.new) ≡ Some self.old.machine.top }
         ensures no_value { (k : Call) → self.old.machine.need ≡ Some (Need.Lookup k) → IsNoValue result }
-        ensures leads { NeedTransition (value_of self.old) registry.old (value_of self.new) registry.new result }
+        ensures transition { NeedTransition (value_of self.old) registry.old (value_of self.new) registry.new result }
         ensures lookup { (k : Call) → self.old.machine.need ≡ Some (Need.Lookup k)
             → StandsStill (value_of self.old) registry.old (value_of self.new) registry.new
             × AsksLookup k result }
@@ -233,7 +233,7 @@ impl TxnCore {
             → CoreHolds A.next L registry.new (value_of self.new) }
         ensures no_value { IsNoValue result }
         ensures begins { IsAsk result → open_call (value_of self.new) ≡ Some key }
-        ensures leads { BeginTransition (value_of self.old) registry.old key
+        ensures transition { BeginTransition (value_of self.old) registry.old key
             (value_of self.new) registry.new result }
         ensures same { value_of self.new
             ≡ record (value_of self.old) { call = self.new.machine; pinning = self.new.pinning } }
@@ -264,7 +264,7 @@ impl TxnCore {
         ensures recorded { self.new.recorded.items
             ≡ recorded_after self.old.recorded.items result (Some self.old.machine.top) }
         ensures goes_on { IsAsk result → open_call (value_of self.new) ≡ Some self.old.machine.top }
-        ensures leads { (need : Need) → self.old.machine.need ≡ Some need
+        ensures transition { (need : Need) → self.old.machine.need ≡ Some need
             → CallTransition A.next (value_of self.old) registry.old need reply
             (value_of self.new) registry.new result }
         ensures same { value_of self.new ≡ record (value_of self.old) {

@@ -4,20 +4,20 @@ ghost use Rattle.std.specs.Option.{ForSome};
 ghost use mathlib.Core.List.{IsPrefix};
 ghost use Rattle.txc_db.specs.History.{History};
 ghost use Rattle.txc_app.specs.Eval.{Next};
-ghost use Rattle.txc_registry.specs.Objects.{numbers_of, AllIdle, Objects};
-ghost use Rattle.txc_ports.specs.Fronts.{front_of_reply};
-ghost use Rattle.txc_txn.specs.Core.{receipt_pin};
+ghost use Rattle.txc_call_registry.specs.Objects.{numbers_of, AllIdle, Objects};
+ghost use Rattle.txc_txn_ports.specs.Fronts.{front_of_reply};
+ghost use Rattle.txc_txn.specs.TxnCore.{receipt_pin};
 
-use crate::receipt::{Left, Receipt};
+use crate::receipt::{Receipt, Unfinished};
 use crate::txn_core::TxnCore;
 use std::alloc::Global;
 use txc_app::App;
+use txc_call_registry::{Cacheable, Registry};
 use txc_cushion::Pin;
 use txc_node::Value;
-use txc_ports::{PortReply, PortRequest, Recorded, Turn};
-use txc_registry::{Cacheable, Registry};
 use txc_stamp::Stamp;
 use txc_tags::Key;
+use txc_txn_ports::{PortReply, PortRequest, Recorded, Turn};
 
 // Returns the newest member, if a call was completed.
 fn receipt_pin(recorded: &[Recorded], members: &[Pin]) -> Option<Pin>
@@ -30,9 +30,9 @@ fn receipt_pin(recorded: &[Recorded], members: &[Pin]) -> Option<Pin>
 }
 
 impl TxnCore {
-    ghost use Rattle.txc_txn.specs.Core.{left_pin, value_of};
-    ghost use Rattle.txc_txn.specs.Core.{CoreHolds, Explains, IsAnswered, IsCore, IsIdle, IsRightPortReply};
-    ghost use Rattle.txc_txn.specs.Kept.{txn_value, HasBegunCall, HasGoneOn};
+    ghost use Rattle.txc_txn.specs.TxnCore.{left_pin, value_of};
+    ghost use Rattle.txc_txn.specs.TxnCore.{CoreHolds, Explains, IsAnswered, IsCore, IsIdle, IsRightPortReply};
+    ghost use Rattle.txc_txn.specs.RunningTxn.{txn_value, HasBegunCall, HasGoneOn};
 
     /// Begins a call. If there is no member, it pins the present first.
     pub fn start<A: App, C: Cacheable>(
@@ -100,7 +100,7 @@ impl TxnCore {
 
     /// Cancels the transaction, also in the middle of a call, and returns the remaining work. Every object is
     /// idle then. Does not allocate.
-    pub fn cancel<A: App, C: Cacheable>(self, registry: &mut Registry<A, C>) -> Left
+    pub fn cancel<A: App, C: Cacheable>(self, registry: &mut Registry<A, C>) -> Unfinished
         requires { IsCore A.next registry.old (value_of self) }
         ensures idle { AllIdle registry.new }
         ensures functions { numbers_of registry.new ≡ numbers_of registry.old }
@@ -113,7 +113,7 @@ impl TxnCore {
         };
         let mut machine = self.machine;
         machine.cancel(registry);
-        Left {
+        Unfinished {
             give_back: self.taken,
             unpin,
         }

@@ -1,14 +1,14 @@
 //! Requests of a transaction at the plain ports.
 ghost use Rattle.std.specs.Prelude.{◌≡◌, ◌<◌, length, Some};
-ghost use Rattle.txc_world.specs.Asks.{kept_after};
+ghost use Rattle.txc_world.specs.PortRequests.{kept_after};
 
 use crate::nodes;
 use crate::ports::Ports;
 use std::alloc::Global;
 use txc_app::App;
 use txc_db::HistoryFront;
-use txc_ports::{Kept, PortReply, PortRequest};
 use txc_shared::Insertion;
+use txc_txn_ports::{Kept, PortReply, PortRequest};
 
 // Returns the result of a node's insertion.
 fn kept_by(insertion: Insertion) -> Kept
@@ -31,8 +31,8 @@ fn kept_after(made: Option<Insertion>) -> Option<Kept>
 }
 
 impl<A: App> Ports<A> {
-    ghost use Rattle.txc_ports.specs.Asking.{AddsSuch, MayAsk};
-    ghost use Rattle.txc_world.specs.Asks.{IsAsked};
+    ghost use Rattle.txc_txn_ports.specs.PortRequests.{AddsSuch, MayAsk};
+    ghost use Rattle.txc_world.specs.PortRequests.{IsAsked};
     ghost use Rattle.txc_world.specs.Parts.{IsPartOf};
     ghost use Rattle.txc_world.specs.Ports.{whole_of};
 

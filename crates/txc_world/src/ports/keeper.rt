@@ -2,8 +2,8 @@
 ghost use Rattle.std.specs.Prelude.{◌≡◌, ◌<◌, false, true, length, slice_index, IfNone, IfSome};
 ghost use Rattle.std.specs.List.{remove};
 ghost use Rattle.txc_db.specs.DatabaseValue.{is_held, without};
-ghost use Rattle.txc_world.specs.declared.step.Keep.{Keep};
-ghost use Rattle.txc_world.specs.Keeping.{stamps_of_pins};
+ghost use Rattle.txc_world.specs.declared.step.KeeperStep.{KeeperStep};
+ghost use Rattle.txc_world.specs.KeeperAtPorts.{stamps_of_pins};
 
 use crate::nodes;
 use crate::ports::Ports;
@@ -36,9 +36,9 @@ fn place_of(spare: &[Pinned], stamp: Stamp) -> Option<usize>
 }
 
 impl<A: App> Ports<A> {
-    ghost use Rattle.txc_world.specs.Asks.{QueryTransition};
-    ghost use Rattle.txc_world.specs.Keeping.{CommitTransition, GiveBackTransition, PinSpareTransition};
-    ghost use Rattle.txc_world.specs.Kept.{IsKeeperStep};
+    ghost use Rattle.txc_world.specs.PortRequests.{QueryTransition};
+    ghost use Rattle.txc_world.specs.KeeperAtPorts.{CommitTransition, GiveBackTransition, PinSpareTransition};
+    ghost use Rattle.txc_world.specs.KeeperStep.{IsKeeperStep};
     ghost use Rattle.txc_world.specs.Ports.{KeepsRow};
 
     /// Commits the changes if no event after the base matches what was read.
@@ -49,7 +49,7 @@ impl<A: App> Ports<A> {
         read: &TagSet,
         changes: &[Change],
     ) -> Result<Stamp, DbError>
-        ensures leads { CommitTransition base read.now changes.now self.old self.new result }
+        ensures transition { CommitTransition base read.now changes.now self.old self.new result }
         ensures keeps { KeepsRow self.old self.new }
     {
         let stamp = self.database.commit(alloc, base, read, changes)?;
@@ -59,7 +59,7 @@ impl<A: App> Ports<A> {
 
     /// Commits the change at the newest stamp, without reads.
     pub(crate) fn write(&mut self, alloc: Global, change: &Change) -> Reply
-        ensures { IsKeeperStep (Keep.Write change.now) self.old self.new result }
+        ensures { IsKeeperStep (KeeperStep.Write change.now) self.old self.new result }
     {
         let read = TagSet::new(alloc);
         let base = self.newest;
@@ -72,7 +72,7 @@ impl<A: App> Ports<A> {
 
     /// Pins the present and queues the pin.
     pub(crate) fn pin_spare(&mut self, alloc: Global, now: u64) -> Result<Stamp, DbError>
-        ensures leads { PinSpareTransition now self.old self.new result }
+        ensures transition { PinSpareTransition now self.old self.new result }
         ensures keeps { KeepsRow self.old self.new }
     {
         self.spare.reserve(1)?;
@@ -85,7 +85,7 @@ impl<A: App> Ports<A> {
 
     /// Adds the queued pin of this stamp, if there is one, to the pincushion, and removes it from the queue.
     pub(crate) fn add_spare(&mut self, stamp: Stamp) -> Reply
-        ensures { IsKeeperStep (Keep.Add stamp) self.old self.new result }
+        ensures { IsKeeperStep (KeeperStep.Add stamp) self.old self.new result }
     {
         let Some(at) = place_of(&self.spare, stamp) else {
             return Reply::Refused(Refusal::NoRequest);
@@ -99,7 +99,7 @@ impl<A: App> Ports<A> {
 
     /// Removes one user of each stamp at the pincushion.
     pub(crate) fn give_back(&mut self, stamps: &[Stamp]) -> Result<(), UnknownPin>
-        ensures leads { GiveBackTransition stamps.now self.old self.new result }
+        ensures transition { GiveBackTransition stamps.now self.old self.new result }
         ensures keeps { KeepsRow self.old self.new }
         ensures same { self.new ≡ record self.old { cushion = self.new.cushion } }
     {
@@ -108,7 +108,7 @@ impl<A: App> Ports<A> {
 
     /// Removes the pins without users whose time is more than `age` before `now`.
     pub(crate) fn retire(&mut self, alloc: Global, now: u64, age: u64) -> Reply
-        ensures { IsKeeperStep (Keep.Retire now age) self.old self.new result }
+        ensures { IsKeeperStep (KeeperStep.Retire now age) self.old self.new result }
     {
         match self.cushion.retire(alloc, now, age) {
             Ok(stamps) => Reply::Retired(stamps),
@@ -118,7 +118,7 @@ impl<A: App> Ports<A> {
 
     /// Drops the versions that no held stamp needs.
     pub(crate) fn vacuum(&mut self) -> Reply
-        ensures { IsKeeperStep Keep.Vacuum self.old self.new result }
+        ensures { IsKeeperStep KeeperStep.Vacuum self.old self.new result }
     {
         match self.database.vacuum() {
             Ok(horizon) => Reply::Vacuumed(horizon),
@@ -134,14 +134,14 @@ impl<A: App> Ports<A> {
         stamp: Stamp,
     ) -> Result<Found, DbError>
         ensures same { self.new ≡ self.old }
-        ensures leads { QueryTransition query.now stamp self.old result }
+        ensures transition { QueryTransition query.now stamp self.old result }
     {
         self.database.query(alloc, query, stamp)
     }
 
     /// Lets the node take the next event.
     pub(crate) fn advance(&mut self, alloc: Global, at: usize) -> Reply
-        ensures { IsKeeperStep (Keep.Advance at) self.old self.new result }
+        ensures { IsKeeperStep (KeeperStep.Advance at) self.old self.new result }
     {
         if at >= self.len() {
             return Reply::Refused(Refusal::NoNode);
@@ -156,7 +156,7 @@ impl<A: App> Ports<A> {
 
     /// Lets the node drop the entries whose span ends at the horizon or before it.
     pub(crate) fn sweep(&mut self, alloc: Global, at: usize, horizon: Stamp) -> Reply
-        ensures { IsKeeperStep (Keep.Sweep at horizon) self.old self.new result }
+        ensures { IsKeeperStep (KeeperStep.Sweep at horizon) self.old self.new result }
     {
         if at >= self.len() {
             return Reply::Refused(Refusal::NoNode);

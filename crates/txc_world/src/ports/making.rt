@@ -1,7 +1,7 @@
 //! The ports of a new world.
 ghost use Rattle.std.specs.Prelude.{◌≡◌, ◌+◌, ◌≤◌, length, IfErr, IfOk};
 ghost use Rattle.txc_db.specs.DatabaseValue.{front_of};
-ghost use Rattle.txc_world.specs.Making.{IsNewNode, AreNewNodes};
+ghost use Rattle.txc_world.specs.NewWorld.{IsNewNode, AreNewNodes};
 
 use crate::ports::Ports;
 use crate::settings::WorldSettings;
@@ -69,7 +69,7 @@ fn new_nodes<A: App>(
 
 impl<A: App> Ports<A> {
     ghost use Rattle.txc_db.specs.Refusals.{IsWant};
-    ghost use Rattle.txc_world.specs.Making.{AreNewPorts};
+    ghost use Rattle.txc_world.specs.NewWorld.{AreNewPorts};
 
     /// Makes the ports of a new world, with a pass at each node for each actor and for the keeper. Fails only
     /// if memory cannot be allocated or SQLite fails.

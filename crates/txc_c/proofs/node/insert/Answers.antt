@@ -1,7 +1,7 @@
 use Rattle.std.proofs.Common.{Option, Some, sym, subst, ap, ◌∙◌}
 use Rattle.txc_node.specs.declared.op.Op.{Op}
 use Rattle.txc_c.specs.Numbers.{call_number}
-use Rattle.txc_c.specs.Told.{call_reply, StoredTold}
+use Rattle.txc_c.specs.NodeReply.{call_reply, StoredTold}
 use Rattle.txc_c.proofs.node.insert.Goals as goal
 
 pub returns-clause-number : goal.returns-clause-number

@@ -1,7 +1,7 @@
 use Rattle.std.proofs.Common.{Some, ap, subst}
 use Rattle.txc_call.specs.declared.need.Need.{Need}
-use Rattle.txc_call.specs.Running.{AfterNeed}
-use Rattle.txc_call.specs.Turns.{needing, turn_of, Standing}
+use Rattle.txc_call.specs.CallSteps.{AfterNeed}
+use Rattle.txc_call.specs.MachineTurn.{needing, turn_of, Standing}
 use Rattle.txc_call.proofs.Keeping.{replied_keeps}
 use Rattle.txc_call.proofs.OneAsk.{replied_onward}
 use Rattle.txc_call.proofs.machine.advance.Goals as goal

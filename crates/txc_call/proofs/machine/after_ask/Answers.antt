@@ -2,8 +2,8 @@ use Rattle.std.proofs.Common.{ℕ, Some, inr, subst}
 use Rattle.txc_call.specs.declared.need.Need.{Need}
 use Rattle.txc_call.specs.Frames.{begun_frame}
 use Rattle.txc_call.specs.Needs.{NeedFits}
-use Rattle.txc_call.specs.Running.{with_ask, AfterOneAsk}
-use Rattle.txc_call.specs.Turns.{turn_of, with_begun}
+use Rattle.txc_call.specs.CallSteps.{with_ask, AfterOneAsk}
+use Rattle.txc_call.specs.MachineTurn.{turn_of, with_begun}
 use Rattle.txc_call.proofs.Transitions.{given_place}
 use Rattle.txc_call.proofs.OneAsk.{ran_resume}
 use Rattle.txc_call.proofs.machine.after_ask.Goals as goal

@@ -1,8 +1,8 @@
 use Rattle.std.proofs.Common.{◌≡◌, ◌≢◌, ℕ, ◌+◌, ◌<◌, true≢false, Some, None, Ok, Err, List, [], ◌∷◌, length, refl, sym, ap, subst, ◌∙◌, arith, Option, IsSome}
 use Rattle.txc_tags.specs.Keys.{Call}
 use Rattle.txc_stamp.specs.Interval.{Interval}
-use Rattle.txc_registry.specs.Activity.{idle}
-use Rattle.txc_registry.specs.Objects.{Objects, activity_of, with_activity, AllIdle}
+use Rattle.txc_call_registry.specs.Activity.{idle}
+use Rattle.txc_call_registry.specs.Objects.{Objects, activity_of, with_activity, AllIdle}
 use Rattle.txc_app.specs.declared.ask.Ask.{Ask}
 use Rattle.txc_app.specs.declared.ask.Ask.TheVariants as asks
 use Rattle.txc_call.specs.declared.error.CallError.TheVariants as errors
@@ -12,8 +12,8 @@ use Rattle.txc_call.specs.declared.need.Need.{Need}
 use Rattle.txc_call.specs.declared.need.Need.TheVariants as needs
 use Rattle.txc_call.specs.Frames.{released, AreFew, IsOpen}
 use Rattle.txc_call.specs.Reaches.{ReachesMeet}
-use Rattle.txc_call.specs.Running.{with_ask, AfterNeed, NeedsFunction}
-use Rattle.txc_call.specs.Turns.{Standing, needing, outwards, turn_of, unreached, AfterAsk, AfterValue}
+use Rattle.txc_call.specs.CallSteps.{with_ask, AfterNeed, NeedsFunction}
+use Rattle.txc_call.specs.MachineTurn.{Standing, needing, outwards, turn_of, unreached, AfterAsk, AfterValue}
 use Rattle.txc_call.proofs.OpenFrames.{closed, few_rest}
 use Rattle.txc_call.proofs.Transitions.{done_onward, given_place, held_onward, turn_err, value_of_held, value_out}
 use Rattle.txc_call.proofs.OneAsk.{at_limits, asks_absent, asks_refused, asks_settled, begins_none, first_few, held_for, looks_up, with_ask_by}
@@ -50,11 +50,11 @@ returns-then-not-has-clause-answer g t c = λ frame rest is.
     let s : Standing = record { frames = c.settle.new.frames.stack; asked = c.settle.new.frames.asked; need = Some c.in_ok-need.need; objects = with_ask objects frame.key.function c.args.ask } in
     let k : Call = c.in-Lookup.key in
     let needed : Some c.in_ok-need.need ≡ Some (needs.Lookup k) = ap (λ (n : Need). Some n) c.in-Lookup.is in
-    let leads = at_limits c.limits-limits.result next.limits rest asked frame c.args.ask objects (Ok s) c.limits-limits.ensures.answer (c.in_ok-need.ensures.answer frame rest objects is) in
-    let stays : c.release_done.new.registry ≡ objects = registry_is ∙ (looks_up next.limits rest asked frame objects s c.args.ask k needed leads).0 in
+    let transition = at_limits c.limits-limits.result next.limits rest asked frame c.args.ask objects (Ok s) c.limits-limits.ensures.answer (c.in_ok-need.ensures.answer frame rest objects is) in
+    let stays : c.release_done.new.registry ≡ objects = registry_is ∙ (looks_up next.limits rest asked frame objects s c.args.ask k needed transition).0 in
     let none : IsSome (activity_of objects k.function) → ⊥ = λ some.
     absurd (true≢false (sym (c.if-not-has.ensures.1 (rw (stays, c.function-called.ensures.answer) some)))) in
-    rw c.function-called.ensures.answer (asks_absent next.limits rest asked frame objects s c.args.ask k (outwards next rest asked frame (Err (errors.NoFunction k.function))) needed none leads)
+    rw c.function-called.ensures.answer (asks_absent next.limits rest asked frame objects s c.args.ask k (outwards next rest asked frame (Err (errors.NoFunction k.function))) needed none transition)
 
 pub returns-then-not-has-clause-released : goal.returns-then-not-has-clause-released
 returns-then-not-has-clause-released g t c =
@@ -91,8 +91,8 @@ returns-else-not-has-clause-answer g t c = λ frame rest is.
     let s : Standing = record { frames = c.settle.new.frames.stack; asked = c.settle.new.frames.asked; need = Some c.in_ok-need.need; objects = with_ask objects frame.key.function c.args.ask } in
     let k : Call = c.in-Lookup.key in
     let needed : Some c.in_ok-need.need ≡ Some (needs.Lookup k) = ap (λ (n : Need). Some n) c.in-Lookup.is in
-    let leads = at_limits c.limits-limits.result next.limits rest asked frame c.args.ask objects (Ok s) c.limits-limits.ensures.answer (c.in_ok-need.ensures.answer frame rest objects is) in
-    let stays : c.release_done.new.registry ≡ objects = registry_is ∙ (looks_up next.limits rest asked frame objects s c.args.ask k needed leads).0 in
+    let transition = at_limits c.limits-limits.result next.limits rest asked frame c.args.ask objects (Ok s) c.limits-limits.ensures.answer (c.in_ok-need.ensures.answer frame rest objects is) in
+    let stays : c.release_done.new.registry ≡ objects = registry_is ∙ (looks_up next.limits rest asked frame objects s c.args.ask k needed transition).0 in
     let here : IsSome (activity_of objects k.function) =
     subst (λ (os : Objects). IsSome (activity_of os k.function)) stays (subst (λ (n : ℕ). IsSome (activity_of c.release_done.new.registry n)) c.function-called.ensures.answer (c.if-not-has.ensures.0 refl)) in
     let there : (j : Call) → s.need ≡ Some (needs.Lookup j) → IsSome (activity_of objects j.function) = λ j needs_j.
@@ -102,7 +102,7 @@ returns-else-not-has-clause-answer g t c = λ frame rest is.
     let stops : NeedsFunction s.need → ⊥ = λ runs. subst (λ (n : Option Need). NeedsFunction n) needed runs in
     subst (λ (os : Objects). AfterAsk next rest asked frame c.args.ask objects (needing c.settle.new.frames.stack c.settle.new.frames.asked (needs.Lookup k) os)) (sym registry_is)
     (subst (λ (n : Need). AfterAsk next rest asked frame c.args.ask objects (needing c.settle.new.frames.stack c.settle.new.frames.asked n (with_ask objects frame.key.function c.args.ask))) c.in-Lookup.is
-    (asks_settled next.limits rest asked frame objects s next c.args.ask there stops leads))
+    (asks_settled next.limits rest asked frame objects s next c.args.ask there stops transition))
 
 pub returns-in_default-need : goal.returns-in_default-need
 returns-in_default-need g t c =

@@ -2,7 +2,7 @@ use Rattle.std.proofs.Common.{ℕ, List, Some, subst}
 use Rattle.txc_call.specs.declared.frame.Frame.{Frame}
 use Rattle.txc_call.specs.declared.need.Need.{Need}
 use Rattle.txc_call.specs.Needs.{NeedFits}
-use Rattle.txc_call.specs.Turns.{turn_of, AfterAsk}
+use Rattle.txc_call.specs.MachineTurn.{turn_of, AfterAsk}
 use Rattle.txc_call.proofs.Transitions.{given_place, held_onward}
 use Rattle.txc_call.proofs.pump.run.Goals as goal
 

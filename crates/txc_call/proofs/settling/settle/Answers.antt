@@ -1,16 +1,16 @@
 use Rattle.std.proofs.Common.{◌≡◌, ℕ, ◌+◌, ◌≤◌, Some, None, List, ◌∷◌, length, refl, sym, ap, subst, ◌∙◌, arith, Option}
 use Rattle.std.specs.Prelude.{vec_len}
 use Rattle.txc_stamp.specs.Interval.{Interval}
-use Rattle.txc_registry.specs.Activity.{idle}
-use Rattle.txc_registry.specs.Objects.{Objects, with_activity}
+use Rattle.txc_call_registry.specs.Activity.{idle}
+use Rattle.txc_call_registry.specs.Objects.{Objects, with_activity}
 use Rattle.txc_app.specs.declared.app.Limits.{Limits}
 use Rattle.txc_app.specs.declared.ask.Ask.{Ask}
 use Rattle.txc_app.specs.declared.ask.Ask.TheVariants.{Call, Done}
 use Rattle.txc_call.specs.declared.frame.Frame.{Frame}
 use Rattle.txc_call.specs.declared.need.Need.{Need}
 use Rattle.txc_call.specs.declared.need.Need.TheVariants.{Insert}
-use Rattle.txc_call.specs.Running.{stays_held, with_ask, AfterOneAsk}
-use Rattle.txc_call.specs.Turns.{count_refusal, entry_of_frame, needing, DoneTransition, Turn}
+use Rattle.txc_call.specs.CallSteps.{stays_held, with_ask, AfterOneAsk}
+use Rattle.txc_call.specs.MachineTurn.{count_refusal, entry_of_frame, needing, DoneTransition, Turn}
 use Rattle.txc_call.proofs.Transitions.{short_by, turn_err}
 use Rattle.txc_call.proofs.OneAsk.{one_allowed, one_refused}
 use Rattle.txc_call.proofs.settling.settle.Goals as goal
@@ -31,14 +31,14 @@ settled_done : (limits : Limits) (frame done : Frame) (rest stack : List Frame) 
     → ((turn : Turn) → turn ≡ needing stack (asked + 1) need (with_activity objects done.key.function idle)
     → DoneTransition stack (asked + 1) done reach bytes (with_activity objects done.key.function idle) (stays_held stack asked done turn) turn)
     → AfterOneAsk limits rest asked frame ask objects (needing stack n need (with_ask objects frame.key.function ask))
-settled_done limits frame done rest stack asked n objects ask bytes reach need popped count counted short is_ask is_reach leads =
+settled_done limits frame done rest stack asked n objects ask bytes reach need popped count counted short is_ask is_reach transition =
     let is_frame : done ≡ frame = cc in
     let is_rest : stack ≡ rest = cc in
     let turn : Turn = needing stack n need (with_activity objects done.key.function idle) in
     let counted' : None ≡ count_refusal limits.asks done.answers asked = rw is_frame counted in
     let at = one_allowed limits stack asked done objects (Done bytes) turn counted' (short_by limits.value bytes short)
     (subst (λ (r : Option Interval). DoneTransition stack (asked + 1) done r bytes (with_activity objects done.key.function idle) (stays_held stack asked done turn) turn) (sym is_reach)
-    (leads turn (ap (λ (m : ℕ). needing stack m need (with_activity objects done.key.function idle)) count))) in
+    (transition turn (ap (λ (m : ℕ). needing stack m need (with_activity objects done.key.function idle)) count))) in
     subst (λ (fs : List Frame). AfterOneAsk limits fs asked frame ask objects (needing stack n need (with_ask objects frame.key.function ask))) is_rest
     (subst (λ (f : Frame). AfterOneAsk limits stack asked f ask objects (needing stack n need (with_ask objects f.key.function ask))) is_frame
     (subst (λ (a : Ask). AfterOneAsk limits stack asked done a objects (needing stack n need (with_ask objects done.key.function a))) (sym is_ask) at))

@@ -1,7 +1,7 @@
 use Rattle.std.proofs.Common.{◌≡◌, ◌∙◌, ap, sym, subst}
-use Rattle.txc_db.specs.Seen.{FrontValue}
-use Rattle.txc_ports.specs.Asking.{MayAsk}
-use Rattle.txc_txn.specs.Core.{CoreValue}
+use Rattle.txc_db.specs.FrontsAndFeeds.{FrontValue}
+use Rattle.txc_txn_ports.specs.PortRequests.{MayAsk}
+use Rattle.txc_txn.specs.TxnCore.{CoreValue}
 use Rattle.txc_txn.proofs.Offered.{is_answered, is_right, may_ask}
 use Rattle.txc_caller.proofs.Looking.{lookup_made, node_kept}
 use Rattle.txc_caller.specs.Ports.{HasAskedPorts}
@@ -15,7 +15,7 @@ ask-requires g c =
     record {
       row = ap (λ (f : FrontValue). f.events) same ∙ c.requires.events;
       may = subst (λ (f : FrontValue). MayAsk g.A.App.next row 1 f.history c.args.request) (sym same)
-          (may_ask g.A.App.next row txn c.is_lent.ensures.meant 1 c.requires.nodes c.args.request c.requires.fits c.requires.adds);
+          (may_ask g.A.App.next row txn c.is_lent.ensures.valid 1 c.requires.nodes c.args.request c.requires.fits c.requires.adds);
     }
 
 pub returns-clause-right : goal.returns-clause-right
@@ -26,10 +26,10 @@ returns-clause-right g c = record {
 }
 
 pub returns-clause-looked_up : goal.returns-clause-looked_up
-returns-clause-looked_up g c = lookup_made c.seen.result.now (g.P.CallPorts.ports c.args.ports.now) (g.P.CallPorts.ports c.ask.new.self) c.args.txn.now.core c.args.request c.ask.result c.requires.fits c.ask.ensures.leads
+returns-clause-looked_up g c = lookup_made c.seen.result.now (g.P.CallPorts.ports c.args.ports.now) (g.P.CallPorts.ports c.ask.new.self) c.args.txn.now.core c.args.request c.ask.result c.requires.fits c.ask.ensures.transition
 
 pub returns-clause-node : goal.returns-clause-node
-returns-clause-node g c = λ of. node_kept c.seen.result.now (g.P.CallPorts.ports c.args.ports.now) (g.P.CallPorts.ports c.ask.new.self) c.args.request c.ask.result of c.ask.ensures.leads
+returns-clause-node g c = λ of. node_kept c.seen.result.now (g.P.CallPorts.ports c.args.ports.now) (g.P.CallPorts.ports c.ask.new.self) c.args.request c.ask.result of c.ask.ensures.transition
 
 pub returns-clause-asked : goal.returns-clause-asked
 returns-clause-asked g c =

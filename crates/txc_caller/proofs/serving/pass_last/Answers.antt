@@ -1,9 +1,9 @@
 use Rattle.std.proofs.Common.{◌≡◌, ◌≢◌, ℕ, None, Some, sym, subst}
 use Rattle.txc_tags.specs.Keys.{Call}
 use Rattle.txc_call.specs.declared.need.Need.TheVariants as needs
-use Rattle.txc_ports.specs.declared.turn.Turn.TheVariants.{Ask, Ended}
+use Rattle.txc_txn_ports.specs.declared.turn.Turn.TheVariants.{Ask, Ended}
 use Rattle.txc_txn.specs.ByHand.{HandTurn, IsHandTurn}
-use Rattle.txc_caller.specs.Serving.{pins_to_come, HasMadeRequest, IsGoing, TurnLeads, turn_error}
+use Rattle.txc_caller.specs.ActRequests.{pins_to_come, HasMadeRequest, IsGoing, TurnTransition, turn_error}
 use Rattle.txc_caller.proofs.Making.{made_ended, made_heard, made_none, missed_heard}
 use Rattle.txc_caller.proofs.Acting.{made_leads, still_leads}
 use Rattle.txc_caller.proofs.serving.pass_last.Goals as goal
@@ -47,28 +47,28 @@ returns-in-None-clause-made g c =
 pub returns-in-None-clause-missed : goal.returns-in-None-clause-missed
 returns-in-None-clause-missed g c = λ k none begins. absurd (c.requires.looked_up k c.in-None.is begins)
 
-pub returns-in-Some-Ask-clause-leads : goal.returns-in-Some-Ask-clause-leads
-returns-in-Some-Ask-clause-leads g c =
+pub returns-in-Some-Ask-clause-transition : goal.returns-in-Some-Ask-clause-transition
+returns-in-Some-Ask-clause-transition g c =
     let before = g.P.CallPorts.ports c.args.ports.now in
     let after = g.P.CallPorts.ports c.asked-reply.new.ports in
     let old = c.args.txn.now in
     let is : c.args.turn ≡ Some (Ask c.in-Some-Ask.request) = cc in
     let going = subst (IsGoing before.database.events old.core) is c.requires.going in
     let last = subst (λ (t : HandTurn). pins_to_come t ≡ 0) is c.requires.last in
-    subst (λ (t : HandTurn). TurnLeads old.core before t after c.hear.new.self.core.taken (turn_error c.hear.result)) (sym is)
+    subst (λ (t : HandTurn). TurnTransition old.core before t after c.hear.new.self.core.taken (turn_error c.hear.result)) (sym is)
     (made_leads old.core c.hear.new.self.core c.hear.result old.core.seen before after g.A.App.next c.in-Some-Ask.request c.asked-reply.result c.asked-reply.ensures.asked going.fits last
     c.hear.ensures.gone_on)
 
-pub returns-in-Some-Ended-clause-leads : goal.returns-in-Some-Ended-clause-leads
-returns-in-Some-Ended-clause-leads g c =
+pub returns-in-Some-Ended-clause-transition : goal.returns-in-Some-Ended-clause-transition
+returns-in-Some-Ended-clause-transition g c =
     let ports = g.P.CallPorts.ports c.args.ports.now in
     let core = c.args.txn.now.core in
     let is : c.args.turn ≡ Some (Ended c.in-Some-Ended.outcome) = cc in
-    subst (λ (t : HandTurn). TurnLeads core ports t ports core.taken (turn_error (Some (Ended c.in-Some-Ended.outcome)))) (sym is)
+    subst (λ (t : HandTurn). TurnTransition core ports t ports core.taken (turn_error (Some (Ended c.in-Some-Ended.outcome)))) (sym is)
     (still_leads core ports (Some (Ended c.in-Some-Ended.outcome)))
 
-pub returns-in-None-clause-leads : goal.returns-in-None-clause-leads
-returns-in-None-clause-leads g c =
+pub returns-in-None-clause-transition : goal.returns-in-None-clause-transition
+returns-in-None-clause-transition g c =
     let ports = g.P.CallPorts.ports c.args.ports.now in
     let core = c.args.txn.now.core in
-    subst (λ (t : HandTurn). TurnLeads core ports t ports core.taken (turn_error None)) (sym c.in-None.is) (still_leads core ports None)
+    subst (λ (t : HandTurn). TurnTransition core ports t ports core.taken (turn_error None)) (sym c.in-None.is) (still_leads core ports None)

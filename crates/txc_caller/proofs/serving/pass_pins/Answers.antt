@@ -1,6 +1,6 @@
 use Rattle.std.proofs.Common.{◌∙◌, arith, sym, subst}
 use Rattle.txc_stream.specs.Names.{Name}
-use Rattle.txc_caller.specs.Serving.{HasPassed, IsGoing}
+use Rattle.txc_caller.specs.ActRequests.{HasPassed, IsGoing}
 use Rattle.txc_caller.proofs.Letting.{grown_then}
 use Rattle.txc_caller.proofs.Requests.{passed_then, three_at_most}
 use Rattle.txc_caller.proofs.serving.pass_pins.Goals as goal
@@ -39,6 +39,6 @@ returns-clause-grown g c =
     let e = (g.P.CallPorts.ports c.pass_pin.new.ports).database in
     grown_then a d e (grown_then a b d c.pass_pin-first.ensures.grown c.pass_pin-second.ensures.grown) c.pass_pin.ensures.grown
 
-pub returns-clause-leads : goal.returns-clause-leads
-returns-clause-leads g c = λ new taken failed h.
-    c.pass_pin-first.ensures.leads new taken failed (c.pass_pin-second.ensures.leads new taken failed (c.pass_pin.ensures.leads new taken failed h))
+pub returns-clause-transition : goal.returns-clause-transition
+returns-clause-transition g c = λ new taken failed h.
+    c.pass_pin-first.ensures.transition new taken failed (c.pass_pin-second.ensures.transition new taken failed (c.pass_pin.ensures.transition new taken failed h))

@@ -1,20 +1,20 @@
 use Rattle.std.proofs.Common.{◌≡◌, ◌≢◌, ◌∙◌, ap, None, Option, Some, Result, sym, subst}
 use Rattle.txc_stream.specs.Names.{Name}
 use Rattle.txc_shared.specs.Nodes.{NodeValue}
-use Rattle.txc_call.specs.Calling.{Calling}
-use Rattle.txc_call.specs.Running.{NeedsFunction}
-use Rattle.txc_ports.specs.declared.turn.Turn.TheVariants.{Ask, Ended}
+use Rattle.txc_call.specs.CallMachine.{Calling}
+use Rattle.txc_call.specs.CallSteps.{NeedsFunction}
+use Rattle.txc_txn_ports.specs.declared.turn.Turn.TheVariants.{Ask, Ended}
 use Rattle.txc_txn.specs.ByHand.{HandTurn, IsHandTurn}
-use Rattle.txc_txn.specs.Core.{CoreValue}
-use Rattle.txc_caller.specs.Looking.{HasMissed, IsComputedOnMiss}
-use Rattle.txc_caller.specs.Serving.{HasMadeRequest, HasServed, IsGoing, TurnLeads, turn_error}
-use Rattle.txc_caller.specs.Telling.{IsNextStep}
+use Rattle.txc_txn.specs.TxnCore.{CoreValue}
+use Rattle.txc_caller.specs.NodeLookup.{HasMissed, IsComputedOnMiss}
+use Rattle.txc_caller.specs.ActRequests.{HasMadeRequest, HasServed, IsGoing, TurnTransition, turn_error}
+use Rattle.txc_caller.specs.ComputedFunctions.{IsNextStep}
 use Rattle.txc_caller.specs.declared.step.CallerError.{CallerError}
 use Rattle.txc_caller.specs.declared.step.Step.{Step}
 use Rattle.txc_caller.proofs.Letting.{grown_then}
 use Rattle.txc_caller.proofs.Served.{missed_ended, missed_step, served_ended, served_open}
-use Rattle.txc_ports.specs.declared.error.TxnError.{TxnError}
-use Rattle.txc_caller.specs.Acting.{step_error}
+use Rattle.txc_txn_ports.specs.declared.error.TxnError.{TxnError}
+use Rattle.txc_caller.specs.CallerAct.{step_error}
 use Rattle.txc_caller.proofs.Acting.{ended_error}
 use Rattle.txc_caller.proofs.serving.serve.Goals as goal
 
@@ -75,22 +75,22 @@ returns-in-Some-Ended-clause-grown g c =
     grown_then (g.P.CallPorts.ports c.args.ports.now).database (g.P.CallPorts.ports c.pass_pins-pinned.new.ports).database (g.P.CallPorts.ports c.pass_last-last.new.ports).database
     c.pass_pins-pinned.ensures.grown c.pass_last-last.ensures.grown
 
-pub returns-in-None-clause-leads : goal.returns-in-None-clause-leads
-returns-in-None-clause-leads g c =
+pub returns-in-None-clause-transition : goal.returns-in-None-clause-transition
+returns-in-None-clause-transition g c =
     let mid = c.pass_pins-pinned.new.txn.core in
     let between = g.P.CallPorts.ports c.pass_pins-pinned.new.ports in
     let after = g.P.CallPorts.ports c.pass_last-last.new.ports in
     let taken = c.pass_last-last.new.txn.core.taken in
-    c.pass_pins-pinned.ensures.leads after taken None
-    (subst (λ (t : HandTurn). TurnLeads mid between c.pass_pins-pinned.result after taken (turn_error t)) c.in-None.is c.pass_last-last.ensures.leads)
+    c.pass_pins-pinned.ensures.transition after taken None
+    (subst (λ (t : HandTurn). TurnTransition mid between c.pass_pins-pinned.result after taken (turn_error t)) c.in-None.is c.pass_last-last.ensures.transition)
 
-pub returns-in-Some-Ended-clause-leads : goal.returns-in-Some-Ended-clause-leads
-returns-in-Some-Ended-clause-leads g c =
+pub returns-in-Some-Ended-clause-transition : goal.returns-in-Some-Ended-clause-transition
+returns-in-Some-Ended-clause-transition g c =
     let mid = c.pass_pins-pinned.new.txn.core in
     let between = g.P.CallPorts.ports c.pass_pins-pinned.new.ports in
     let after = g.P.CallPorts.ports c.pass_last-last.new.ports in
     let taken = c.pass_last-last.new.txn.core.taken in
     let is : c.pass_last-last.result ≡ Some (Ended c.in-Some-Ended.outcome) = cc in
-    c.pass_pins-pinned.ensures.leads after taken _
-    (subst (λ (e : Option TxnError). TurnLeads mid between c.pass_pins-pinned.result after taken e)
-    (ap turn_error is ∙ ended_error c.in-Some-Ended.outcome ∙ ap (λ (r : Result Step CallerError). step_error r) (sym c.ended.ensures)) c.pass_last-last.ensures.leads)
+    c.pass_pins-pinned.ensures.transition after taken _
+    (subst (λ (e : Option TxnError). TurnTransition mid between c.pass_pins-pinned.result after taken e)
+    (ap turn_error is ∙ ended_error c.in-Some-Ended.outcome ∙ ap (λ (r : Result Step CallerError). step_error r) (sym c.ended.ensures)) c.pass_last-last.ensures.transition)

@@ -3,21 +3,21 @@ use Rattle.std.specs.Prelude.{OnErr, OnOk}
 use Rattle.txc_tags.specs.Keys.{Call}
 use Rattle.txc_db.specs.DatabaseValue.{DatabaseValue}
 use Rattle.txc_db.specs.History.{state_at}
-use Rattle.txc_app.specs.Answering.{IsRight}
+use Rattle.txc_app.specs.AnswersSoFar.{IsRight}
 use Rattle.txc_app.specs.declared.app.Limits.{Limits}
 use Rattle.txc_app.specs.Eval.{Next}
 use Rattle.txc_app.specs.declared.ask.Ask.{Ask}
-use Rattle.txc_registry.specs.Objects.{Objects}
-use Rattle.txc_call.specs.Calling.{Calling, IsCalling}
+use Rattle.txc_call_registry.specs.Objects.{Objects}
+use Rattle.txc_call.specs.CallMachine.{Calling, IsCalling}
 use Rattle.txc_call.specs.Frames.{answers_in}
 use Rattle.txc_call.specs.declared.need.Need.{Need}
-use Rattle.txc_call.specs.Running.{objects_after, AfterRan}
-use Rattle.txc_told.specs.Steps.{objects_after_ask, objects_after_need}
-use Rattle.txc_rw.specs.ByHand.{RwHandTurn, RwObjectsLeft, answers_by_hand}
-use Rattle.txc_rw.specs.Core.{RwHolds, RwValue}
+use Rattle.txc_call.specs.CallSteps.{objects_after, AfterRan}
+use Rattle.txc_call_ghosts.specs.Steps.{objects_after_ask, objects_after_need}
+use Rattle.txc_txn_rw.specs.ByHand.{RwHandTurn, RwObjectsLeft, answers_by_hand}
+use Rattle.txc_txn_rw.specs.RwCore.{RwHolds, RwValue}
 use Rattle.txc_caller.specs.Ports.{CallerPorts}
-use Rattle.txc_caller.specs.Telling.{computed_calls, computed_in}
-use Rattle.txc_caller.specs.Writing.{queried_for}
+use Rattle.txc_caller.specs.ComputedFunctions.{computed_calls, computed_in}
+use Rattle.txc_caller.specs.CallerWrite.{queried_for}
 use Rattle.txc_caller.proofs.Lent.{ask_there, some_need}
 use Rattle.txc_caller.proofs.Telling.{StandsNext, ran_next}
 use Rattle.txc_caller.proofs.WriteActs.{around_asked, asked_from, is_top, led_answers, led_same, led_top, led_unended, no_answer_more, objects_follow, read_once, rests_after, same_but, stepped, told_when_led, unread_once, why_refused}
@@ -81,11 +81,11 @@ returns g c =
     let first_holds = λ (m : Objects) (l : RwObjectsLeft os first m). c.ran-first.ensures.holds next objects m d.history need.0 (sym is_limits) need.1 due there l c.requires.fits c.requires.holds in
     let fits = c.lead-last.ensures.fits next os after first_fits left in
     let holds = c.lead-last.ensures.holds next os after first_fits first_holds left in
-    let leads = asked.leads need.0 need.1 objects in
+    let transition = asked.transition need.0 need.1 objects in
     let computed : List Call = computed_calls old.call in
     let in_need : computed_in old.call.frames (Some need.0) ≡ computed = sym (ap (λ (n : Option Need). computed_in old.call.frames n) need.1) in
-    let stands = subst (λ (ks : List Call). StandsNext ks ask leads.0) in_need (ran_next limits old.call.frames old.call.asked objects need.0 ask leads.0 leads.1) in
-    let from = asked_from computed ask leads.0 mid first stands leads.2 asked.turn_fits in
+    let stands = subst (λ (ks : List Call). StandsNext ks ask transition.0) in_need (ran_next limits old.call.frames old.call.asked objects need.0 ask transition.0 transition.1) in
+    let from = asked_from computed ask transition.0 mid first stands transition.2 asked.turn_fits in
     let then = led_same d mid new first last led in
     let rests = rests_after new last c.lead-last.ensures.turn c.lead-last.ensures.heard in
     let same = same_but old mid new asked.same then rests c.requires.none in
@@ -116,8 +116,8 @@ returns g c =
       unqueried = subst (λ (v : RwValue). OnErr c.step_after.result (new.queried ≡ v.queried)) asked.same
           (unread_once d computed mid new first last c.step_after.result led step);
       undone = λ undone. answers ∙ no_answer_more computed old.answers old.call.top ask mid.call first from undone;
-      refused = why_refused next.limits d computed old mid new objects need.0 ask need.1 leads.0 first last c.step_after.result
-          (subst (λ (l : Limits). AfterRan l old.call.frames old.call.asked objects need.0 ask leads.0) is_limits leads.1) leads.2 from (ap (λ (v : RwValue). v.base) asked.same) led step;
+      refused = why_refused next.limits d computed old mid new objects need.0 ask need.1 transition.0 first last c.step_after.result
+          (subst (λ (l : Limits). AfterRan l old.call.frames old.call.asked objects need.0 ask transition.0) is_limits transition.1) transition.2 from (ap (λ (v : RwValue). v.base) asked.same) led step;
       same = same;
       ports = c.lead-last.ensures.same;
     }

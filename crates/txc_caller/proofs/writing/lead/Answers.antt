@@ -1,6 +1,6 @@
 use Rattle.std.proofs.Common.{◌≡◌, Some, refl, sym, subst}
-use Rattle.txc_ports.specs.declared.turn.Turn.TheVariants.{Ask, Ended}
-use Rattle.txc_rw.specs.ByHand.{RwHandTurn, RwObjectsLeft, IsRwHandTurn}
+use Rattle.txc_txn_ports.specs.declared.turn.Turn.TheVariants.{Ask, Ended}
+use Rattle.txc_txn_rw.specs.ByHand.{RwHandTurn, RwObjectsLeft, IsRwHandTurn}
 use Rattle.txc_caller.proofs.WriteActs.{heard_after, right_reply_to}
 use Rattle.txc_caller.proofs.writing.lead.Goals as goal
 
@@ -22,7 +22,7 @@ pub returns-in-Some-Ask-clause-heard : goal.returns-in-Some-Ask-clause-heard
 returns-in-Some-Ask-clause-heard g c =
     let is : c.args.turn ≡ Some (Ask c.in-Some-Ask.query) = cc (c.in-Some-Ask.is, c.in-Some-Ask.field-0-is) in
     let asked : IsRwHandTurn c.args.core.now (Some (Ask c.in-Some-Ask.query)) = subst (λ (t : RwHandTurn). IsRwHandTurn c.args.core.now t) is c.requires.turn in
-    heard_after c.args.core.now c.in-Some-Ask.query c.find-found.result c.hear.new.self c.hear.result (c.hear.ensures.leads c.in-Some-Ask.query asked.0)
+    heard_after c.args.core.now c.in-Some-Ask.query c.find-found.result c.hear.new.self c.hear.result (c.hear.ensures.transition c.in-Some-Ask.query asked.0)
 
 pub returns-in-Some-Ended-clause-fits : goal.returns-in-Some-Ended-clause-fits
 returns-in-Some-Ended-clause-fits g c = λ next objects after before left.

@@ -2,7 +2,7 @@ use Rattle.std.proofs.Common.{◌≤◌, List, length, sym, subst, ◌∙◌, ar
 use Rattle.std.proofs.lemmas.List.{take_all}
 use Rattle.std.proofs.lemmas.Option.{slice_get_past}
 use Rattle.txc_node.specs.declared.entry.Entry.{Entry}
-use Rattle.txc_node.specs.Indexed.{HeldEntries, IndexesTags, entry_of, with_first}
+use Rattle.txc_node.specs.IndexedEntries.{HeldEntries, IndexesTags, entry_of, with_first}
 use Rattle.txc_node.proofs.Apart.{first_apart}
 use Rattle.txc_node.proofs.Listed.{evicted_listed, first_listed, listed_more, no_more}
 use Rattle.txc_node.proofs.indexed.put.Goals as goal

@@ -1,7 +1,7 @@
 use Rattle.std.proofs.Common.{◌≡◌, true, List, subst}
 use Rattle.txc_tags.specs.declared.tag.Tag.{Tag}
 use Rattle.txc_tags.specs.Tags.{has_tag}
-use Rattle.txc_node.specs.Indexed.{KeepsListed}
+use Rattle.txc_node.specs.IndexedEntries.{KeepsListed}
 use Rattle.txc_node.proofs.Listed.{left_off, nothing_there, stored_there}
 use Rattle.txc_node.proofs.indexed.unlist_left.Goals as goal
 

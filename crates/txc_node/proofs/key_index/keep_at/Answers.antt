@@ -6,8 +6,8 @@ use Rattle.std.proofs.lemmas.Bool.{false≢true}
 use Rattle.indexmap.specs.IndexMap.{set_value_at}
 use Rattle.txc_stamp.specs.Interval.{Interval}
 use Rattle.txc_tags.specs.Keys.{Call, same_call}
-use Rattle.txc_node.specs.Indexed.{listed}
-use Rattle.txc_node.specs.Sweeping.{ends_by, lasting, AreAllLasting}
+use Rattle.txc_node.specs.IndexedEntries.{listed}
+use Rattle.txc_node.specs.Sweep.{ends_by, lasting, AreAllLasting}
 use Rattle.txc_node.proofs.Lasting.{dropped_from, dropped_listed, kept_from, kept_listed, none_past, set_there}
 use Rattle.txc_node.proofs.key_index.keep_at.Goals as goal
 use Rattle.txc_node.proofs.key_index.keep_at.Goals.{in-None, in-Some}

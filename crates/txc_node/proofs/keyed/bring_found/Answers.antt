@@ -1,6 +1,6 @@
 use Rattle.std.proofs.Common.{◌≡◌, ℕ, ◌∷◌, Some, ap, sym, subst, ◌∙◌, arith}
 use Rattle.std.specs.Prelude.{slice_get, remove}
-use Rattle.txc_node.specs.Indexed.{listed, Relists}
+use Rattle.txc_node.specs.IndexedEntries.{listed, Relists}
 use Rattle.txc_node.proofs.Fronts.{relists_first}
 use Rattle.txc_node.proofs.keyed.bring_found.Goals as goal
 

@@ -1,6 +1,6 @@
 use Rattle.std.proofs.Common.{◌≡◌, true}
 use Rattle.txc_node.specs.declared.place.Place.{Place}
-use Rattle.txc_node.specs.Indexed.{has_place, is_live}
+use Rattle.txc_node.specs.IndexedEntries.{has_place, is_live}
 use Rattle.txc_node.proofs.others.clean.Given as goal
 
 abbrev pub invariant-loop-i : goal.invariant-loop-i

@@ -2,8 +2,8 @@ use Rattle.std.proofs.Common.{ap, sym, subst, ◌∙◌}
 use Rattle.lru.specs.LruCache.{LruCache}
 use Rattle.txc_node.specs.declared.place.Place.{Place}
 use Rattle.txc_node.specs.declared.stored.Stored.{Stored}
-use Rattle.txc_node.specs.Indexed.{entries_of}
-use Rattle.txc_node.specs.Sweeping.{AreStored}
+use Rattle.txc_node.specs.IndexedEntries.{entries_of}
+use Rattle.txc_node.specs.Sweep.{AreStored}
 use Rattle.txc_node.proofs.Sweepings.{removed_elsewhere, taken_stored}
 use Rattle.txc_node.proofs.sweeping.take_out.Goals as goal
 

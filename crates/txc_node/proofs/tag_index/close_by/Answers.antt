@@ -4,7 +4,7 @@ use Rattle.std.proofs.lemmas.Bool.{false≢true}
 use Rattle.txc_tags.specs.declared.tag.Rows.{Rows}
 use Rattle.txc_tags.specs.declared.tag.Rows.TheVariants.{All, Id, Group}
 use Rattle.txc_tags.specs.Tags.{are_all, rows_match}
-use Rattle.txc_node.specs.Indexed.{lists_rows}
+use Rattle.txc_node.specs.IndexedEntries.{lists_rows}
 use Rattle.txc_node.proofs.Invalidated.{spared_still, was_live}
 use Rattle.txc_node.proofs.tag_index.close_by.Goals as goal
 

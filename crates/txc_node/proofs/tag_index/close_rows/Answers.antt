@@ -1,6 +1,6 @@
 use Rattle.std.proofs.Common.{[], ap, ◌∙◌}
 use Rattle.std.specs.Prelude.{unwrap_or}
-use Rattle.txc_node.specs.Indexed.{IsSpared, has_place}
+use Rattle.txc_node.specs.IndexedEntries.{IsSpared, has_place}
 use Rattle.txc_node.proofs.Closings.{among}
 use Rattle.txc_node.proofs.tag_index.close_rows.Goals as goal
 

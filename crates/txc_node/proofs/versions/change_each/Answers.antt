@@ -1,7 +1,7 @@
 use Rattle.std.proofs.Common.{arith}
 use Rattle.std.proofs.lemmas.Grind.{common_steps}
 use Rattle.std.proofs.lemmas.List.Edits.{map_over_more}
-use Rattle.txc_node.specs.Indexed.{in_stead}
+use Rattle.txc_node.specs.IndexedEntries.{in_stead}
 use Rattle.txc_node.proofs.versions.change_each.Goals as goal
 
 pub loop-other-preserved : goal.loop-other-preserved

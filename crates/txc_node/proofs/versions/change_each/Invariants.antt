@@ -1,5 +1,5 @@
 use Rattle.std.proofs.Common.{◌≡◌, ◌++◌, map, take, drop}
-use Rattle.txc_node.specs.Indexed.{in_stead}
+use Rattle.txc_node.specs.IndexedEntries.{in_stead}
 use Rattle.txc_node.proofs.versions.change_each.Given as goal
 
 abbrev pub invariant-loop-other : goal.invariant-loop-other

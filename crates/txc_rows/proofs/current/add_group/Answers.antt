@@ -1,10 +1,10 @@
 use Rattle.std.proofs.Common.{◌≡◌, ◌+◌, ◌++◌, ◌∷◌, Some, Err, is_none, false, map, filter, sym, ap, ◌∙◌, append-nil, rules, arith}
 use Rattle.std.specs.Map.{lookup}
 use Rattle.std.proofs.lemmas.List.Sorted.{length_permutation}
-use Rattle.txc_slots.specs.Slots.{is_key, held}
+use Rattle.txc_base_slots.specs.Slots.{is_key, held}
 use Rattle.txc_rows.specs.declared.store_error.StoreError.TheVariants.{TooManyRows}
 use Rattle.txc_rows.specs.Placed.{version_of}
-use Rattle.txc_rows.specs.Slotted.{row_key}
+use Rattle.txc_rows.specs.VersionSlots.{row_key}
 use Rattle.txc_rows.proofs.FindLemmas.{passed_error}
 use Rattle.txc_rows.proofs.Slotting.{keys, in_range, gathered, gathered_first, found_keys, found_group, many_left}
 use Rattle.txc_rows.proofs.current.add_group.Goals as goal

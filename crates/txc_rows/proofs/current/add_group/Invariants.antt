@@ -1,5 +1,5 @@
 use Rattle.std.proofs.Common.{◌≡◌, ◌≤◌, ◌++◌, map, length}
-use Rattle.txc_slots.specs.Slots.{held}
+use Rattle.txc_base_slots.specs.Slots.{held}
 use Rattle.txc_rows.specs.Placed.{version_of}
 use Rattle.txc_rows.proofs.Slotting.{gathered, found_keys}
 use Rattle.txc_rows.proofs.current.add_group.Given as goal

@@ -1,7 +1,7 @@
 use Rattle.std.proofs.Common.{◌≡◌, ◌<◌, ◌++◌, ◌∷◌, Err, map, filter, sym, ap, ◌∙◌, append-nil, rules, arith}
 use Rattle.txc_rows.specs.declared.store_error.StoreError.TheVariants.{TooManyRows}
 use Rattle.txc_rows.specs.Placed.{version_of}
-use Rattle.txc_rows.specs.Slotted.{in_slots, row_between}
+use Rattle.txc_rows.specs.VersionSlots.{in_slots, row_between}
 use Rattle.txc_rows.proofs.FindLemmas.{passed_error}
 use Rattle.txc_rows.proofs.Slotting.{within, none_between, found_rows, many_left}
 use Rattle.txc_rows.proofs.current.add_rows.Goals as goal

@@ -1,6 +1,6 @@
 use Rattle.std.proofs.Common.{◌≡◌, ◌≤◌, ◌++◌, map, filter, length}
 use Rattle.txc_rows.specs.Placed.{version_of}
-use Rattle.txc_rows.specs.Slotted.{in_slots, row_between}
+use Rattle.txc_rows.specs.VersionSlots.{in_slots, row_between}
 use Rattle.txc_rows.proofs.current.add_rows.Given as goal
 
 abbrev pub invariant-loop-slot : goal.invariant-loop-slot

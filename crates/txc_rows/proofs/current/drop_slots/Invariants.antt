@@ -1,5 +1,5 @@
 use Rattle.std.proofs.Common.{◌≡◌}
-use Rattle.txc_slots.specs.Slots.{held}
+use Rattle.txc_base_slots.specs.Slots.{held}
 use Rattle.txc_rows.proofs.current.drop_slots.Given as goal
 
 abbrev pub invariant-loop-change : goal.invariant-loop-change

@@ -1,6 +1,6 @@
 use Rattle.std.proofs.Common.{◌≡◌, ap, ◌∙◌}
-use Rattle.txc_slots.specs.Slots.{Changes}
-use Rattle.txc_rows.specs.Slotted.{row_key}
+use Rattle.txc_base_slots.specs.Slots.{Changes}
+use Rattle.txc_rows.specs.VersionSlots.{row_key}
 use Rattle.txc_rows.proofs.Slotting.{moves_so, current_then}
 use Rattle.txc_rows.proofs.current.move_version.Goals as goal
 

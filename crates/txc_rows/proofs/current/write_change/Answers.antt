@@ -2,7 +2,7 @@ use Rattle.std.proofs.Common.{◌+◌, ◌++◌, Some, OnOk, refl, sym, ap, subs
 use Rattle.std.proofs.lemmas.Result.{on_ok_weaker}
 use Rattle.txc_rows.specs.Versions.{after_write}
 use Rattle.txc_rows.specs.Placed.{versions_by_place, AreAll}
-use Rattle.txc_rows.specs.Slotted.{in_slots, Moves}
+use Rattle.txc_rows.specs.VersionSlots.{in_slots, Moves}
 use Rattle.txc_rows.proofs.Moving.{removed_moved, put_moved}
 use Rattle.txc_rows.proofs.current.write_change.Goals as goal
 

@@ -2,7 +2,7 @@ use Rattle.std.proofs.Common.{◌≡◌, ◌+◌, ◌++◌, ◌∷◌, drop, len
 use Rattle.std.proofs.lemmas.List.{drop_all, at_drop_more}
 use Rattle.txc_rows.specs.Versions.{after_net}
 use Rattle.txc_rows.specs.Placed.{versions_by_place}
-use Rattle.txc_rows.specs.Slotted.{in_slots}
+use Rattle.txc_rows.specs.VersionSlots.{in_slots}
 use Rattle.txc_rows.proofs.ChangeSteps.{longer_itself, longer_then}
 use Rattle.txc_rows.proofs.current.write_each.Goals as goal
 

@@ -1,8 +1,8 @@
 use Rattle.std.proofs.Common.{◌≡◌, ◌+◌, ◌≤◌, ◌++◌, drop, length}
-use Rattle.txc_slots.specs.Slots.{undone}
+use Rattle.txc_base_slots.specs.Slots.{undone}
 use Rattle.txc_rows.specs.Versions.{after_net}
 use Rattle.txc_rows.specs.Placed.{versions_by_place, AreAll, AddsAtEnd}
-use Rattle.txc_rows.specs.Slotted.{in_slots, AreCurrent}
+use Rattle.txc_rows.specs.VersionSlots.{in_slots, AreCurrent}
 use Rattle.txc_rows.proofs.current.write_each.Given as goal
 
 abbrev pub invariant-loop-change : goal.invariant-loop-change

@@ -2,8 +2,8 @@ use Rattle.std.proofs.Common.{◌≡◌, ◌+◌, ◌++◌, ◌∷◌, [], drop,
 use Rattle.std.specs.List.{AllByRecursion, Contains}
 use Rattle.txc_rows.specs.declared.placed.Placed.{Placed}
 use Rattle.txc_rows.specs.Placed.{version_of, AreAmong}
-use Rattle.txc_rows.specs.Stored.{placed_from}
-use Rattle.txc_rows.specs.Kept.{IsPlacedRow}
+use Rattle.txc_rows.specs.StoredVersion.{placed_from}
+use Rattle.txc_rows.specs.LatestTable.{IsPlacedRow}
 use Rattle.txc_rows.proofs.PutLemmas.{all_front}
 use Rattle.txc_rows.proofs.SweepCalls.{next_first}
 use Rattle.txc_rows.proofs.decode.add_known.Goals as goal

@@ -1,8 +1,8 @@
 use Rattle.std.proofs.Common.{◌≡◌, ◌≤◌, ◌+◌, ◌++◌, length, drop, map}
 use Rattle.std.specs.List.{AllByRecursion}
 use Rattle.txc_rows.specs.Placed.{version_of, AreAmong}
-use Rattle.txc_rows.specs.Stored.{placed_from}
-use Rattle.txc_rows.specs.Kept.{IsPlacedRow}
+use Rattle.txc_rows.specs.StoredVersion.{placed_from}
+use Rattle.txc_rows.specs.LatestTable.{IsPlacedRow}
 use Rattle.txc_rows.proofs.decode.add_known.Given as goal
 
 abbrev pub invariant-loop-row : goal.invariant-loop-row

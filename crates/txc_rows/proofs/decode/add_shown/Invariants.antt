@@ -1,7 +1,7 @@
 use Rattle.std.proofs.Common.{◌≡◌, ◌++◌, drop, map}
 use Rattle.std.specs.List.{AllByRecursion}
-use Rattle.txc_rows.specs.Stored.{version_shown}
-use Rattle.txc_rows.specs.Kept.{IsShown}
+use Rattle.txc_rows.specs.StoredVersion.{version_shown}
+use Rattle.txc_rows.specs.LatestTable.{IsShown}
 use Rattle.txc_rows.proofs.decode.add_shown.Given as goal
 
 abbrev pub invariant-loop-shown : goal.invariant-loop-shown

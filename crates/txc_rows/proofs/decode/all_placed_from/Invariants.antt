@@ -1,7 +1,7 @@
 use Rattle.std.proofs.Common.{◌≡◌, ◌++◌, drop, map}
 use Rattle.std.specs.List.{AllByRecursion}
-use Rattle.txc_rows.specs.Stored.{placed_from}
-use Rattle.txc_rows.specs.Kept.{IsPlacedRow}
+use Rattle.txc_rows.specs.StoredVersion.{placed_from}
+use Rattle.txc_rows.specs.LatestTable.{IsPlacedRow}
 use Rattle.txc_rows.proofs.decode.all_placed_from.Given as goal
 
 abbrev pub invariant-loop-row : goal.invariant-loop-row

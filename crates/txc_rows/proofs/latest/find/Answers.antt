@@ -2,8 +2,8 @@ use Rattle.std.proofs.Common.{◌≡◌, ◌-◌, ◌++◌, ◌<◌, ◌≤◌, 
 use Rattle.std.proofs.lemmas.Result.{on_ok_weaker}
 use Rattle.txc_rows.specs.States.{query_table}
 use Rattle.txc_rows.specs.Placed.{version_of, left_from}
-use Rattle.txc_rows.specs.Stored.{version_shown}
-use Rattle.txc_rows.specs.Kept.{latest_in}
+use Rattle.txc_rows.specs.StoredVersion.{version_shown}
+use Rattle.txc_rows.specs.LatestTable.{latest_in}
 use Rattle.txc_rows.proofs.Listed.{many_listed}
 use Rattle.txc_rows.proofs.FindLemmas.{read_finding, read_few}
 use Rattle.txc_rows.proofs.latest.find.Goals as goal

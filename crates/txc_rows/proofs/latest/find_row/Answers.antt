@@ -1,8 +1,8 @@
 use Rattle.std.proofs.Common.{◌≡◌, ◌-◌, ◌++◌, ◌<◌, ◌≤◌, OnOk, length, map, arith}
 use Rattle.std.proofs.lemmas.Result.{on_ok_weaker}
 use Rattle.txc_rows.specs.Placed.{version_of}
-use Rattle.txc_rows.specs.Stored.{placed_from}
-use Rattle.txc_rows.specs.Kept.{latest_in}
+use Rattle.txc_rows.specs.StoredVersion.{placed_from}
+use Rattle.txc_rows.specs.LatestTable.{latest_in}
 use Rattle.txc_rows.proofs.FindLemmas.{row_finding, row_few, row_many, row_among}
 use Rattle.txc_rows.proofs.latest.find_row.Goals as goal
 

@@ -1,6 +1,6 @@
 use Rattle.std.specs.List.Sorted.{IsPermutation}
 use Rattle.txc_rows.specs.Placed.{placed_left}
-use Rattle.txc_rows.specs.Kept.{latest_in}
+use Rattle.txc_rows.specs.LatestTable.{latest_in}
 use Rattle.txc_rows.proofs.HeldLemmas.{refused_latest}
 use Rattle.txc_rows.proofs.latest.leave_out.Goals as goal
 

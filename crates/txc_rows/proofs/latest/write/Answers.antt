@@ -1,7 +1,7 @@
 use Rattle.std.proofs.Common.{◌+◌, length}
 use Rattle.txc_rows.specs.Versions.{after_net}
 use Rattle.txc_rows.specs.Placed.{AreAll}
-use Rattle.txc_rows.specs.Kept.{latest_in, versions_of}
+use Rattle.txc_rows.specs.LatestTable.{latest_in, versions_of}
 use Rattle.txc_rows.proofs.HeldLemmas.{refused_latest}
 use Rattle.txc_rows.proofs.latest.write.Goals as goal
 

@@ -5,7 +5,7 @@ use Rattle.sqlite.specs.Order.{Row}
 use Rattle.sqlite.specs.State.{Shown, FailsToQuery}
 use Rattle.sqlite.proofs.Callers.{memory_is_clean}
 use Rattle.txc_rows.specs.declared.texts.TheConstants.{READ_PLACED}
-use Rattle.txc_rows.specs.Stored.{number}
+use Rattle.txc_rows.specs.StoredVersion.{number}
 use Rattle.txc_rows.proofs.Commands.{placed_is}
 use Rattle.txc_rows.proofs.HeldLemmas.{read_same, row_passing}
 use Rattle.txc_rows.proofs.reads.read_placed.Goals as goal

@@ -6,7 +6,7 @@ use Rattle.sqlite.specs.State.{Shown, FailsToQuery}
 use Rattle.sqlite.proofs.Callers.{memory_is_clean}
 use Rattle.txc_rows.specs.declared.query.Query.TheVariants.{Range}
 use Rattle.txc_rows.specs.declared.texts.TheConstants.{READ_RANGE}
-use Rattle.txc_rows.specs.Stored.{number}
+use Rattle.txc_rows.specs.StoredVersion.{number}
 use Rattle.txc_rows.proofs.Commands.{range_filter, range_is}
 use Rattle.txc_rows.proofs.StoredRows.{range_test}
 use Rattle.txc_rows.proofs.HeldLemmas.{lists}

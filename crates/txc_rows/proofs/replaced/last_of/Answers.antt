@@ -1,5 +1,5 @@
 use Rattle.std.proofs.Common.{◌≡◌, ◌++◌, ◌∷◌, [], true, filter, sym, ap, subst, ◌∙◌}
-use Rattle.txc_rows.specs.Indexed.{dies_within, DeathsRise, IsLatest}
+use Rattle.txc_rows.specs.ReplacedIndex.{dies_within, DeathsAscend, IsLatest}
 use Rattle.txc_rows.proofs.SpotLemmas.{back_on, last_latest}
 use Rattle.txc_rows.proofs.replaced.last_of.Goals as goal
 
@@ -10,4 +10,4 @@ returns-then-has c =
     let rest = filter (dies_within d) c.next_back.new.self in
     let on : dies_within d s ≡ true = sym c.has.ensures ∙ c.if-has.true in
     let are : filter (dies_within d) c.args.spots ≡ rest ++ s ∷ [] = sym c.loop-spot.invariant ∙ (ap (filter (dies_within d)) c.in-Some.ensures.steps ∙ back_on d s c.next_back.new.self on) in
-    subst (λ ss. IsLatest ss s) (sym are) (last_latest s rest (subst DeathsRise are c.requires))
+    subst (λ ss. IsLatest ss s) (sym are) (last_latest s rest (subst DeathsAscend are c.requires))

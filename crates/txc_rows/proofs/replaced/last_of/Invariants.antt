@@ -1,5 +1,5 @@
 use Rattle.std.proofs.Common.{◌≡◌, filter, length}
-use Rattle.txc_rows.specs.Indexed.{dies_within}
+use Rattle.txc_rows.specs.ReplacedIndex.{dies_within}
 use Rattle.txc_rows.proofs.replaced.last_of.Given as goal
 
 abbrev pub invariant-loop-spot : goal.invariant-loop-spot

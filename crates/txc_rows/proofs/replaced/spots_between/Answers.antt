@@ -1,5 +1,5 @@
 use Rattle.std.proofs.Common.{◌≡◌, ◌⊎◌, ◌<◌, inl, inr, ℕ, filter, ap, subst, sym, ◌∙◌, rules, arith}
-use Rattle.txc_rows.specs.Indexed.{dies_within, is_between, DeathsRise}
+use Rattle.txc_rows.specs.ReplacedIndex.{dies_within, is_between, DeathsAscend}
 use Rattle.txc_rows.proofs.IndexLemmas.{between_spots, none_between, between_rise}
 use Rattle.txc_rows.proofs.replaced.spots_between.Goals.{then-first-last-via-then-first-last, then-first-last-via-else-first-last+then-deaths}
 use Rattle.txc_rows.proofs.replaced.spots_between.Goals as goal
@@ -24,4 +24,4 @@ returns-clause-rise c = λ same.
     let are : filter (dies_within c.args.deaths) c.range-2.result ≡ filter (is_between c.args.table c.args.first c.args.last) (filter (dies_within c.args.deaths) c.args.spots.now.keys)
     = ap (filter (dies_within c.args.deaths)) (rw (c.new.ensures.start, c.new.ensures.end, c.number-table.ensures.answer) at (c.range-2.ensures.between (search rules)))
     ∙ between_spots c.args.table c.args.first c.args.last c.args.deaths c.args.spots.now.keys c.requires in
-    subst DeathsRise (sym are) (subst (λ (b : ℕ). DeathsRise (filter (is_between c.args.table c.args.first b) (filter (dies_within d) keys))) same (between_rise c.args.table c.args.first d keys c.range-2.ensures.ordered))
+    subst DeathsAscend (sym are) (subst (λ (b : ℕ). DeathsAscend (filter (is_between c.args.table c.args.first b) (filter (dies_within d) keys))) same (between_rise c.args.table c.args.first d keys c.range-2.ensures.ordered))

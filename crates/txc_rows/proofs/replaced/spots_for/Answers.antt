@@ -1,5 +1,5 @@
 use Rattle.std.proofs.Common.{◌≡◌, filter, sym, subst, ◌∙◌}
-use Rattle.txc_rows.specs.Indexed.{dies_within, spot_suits, spots_asked}
+use Rattle.txc_rows.specs.ReplacedIndex.{dies_within, spot_suits, spots_asked}
 use Rattle.txc_rows.proofs.IndexLemmas.{between_all, within_fit}
 use Rattle.txc_rows.proofs.replaced.spots_for.Goals as goal
 

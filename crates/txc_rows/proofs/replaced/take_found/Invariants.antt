@@ -1,6 +1,6 @@
 use Rattle.std.proofs.Common.{◌≡◌, ◌++◌, map, filter}
 use Rattle.txc_rows.specs.Placed.{version_of}
-use Rattle.txc_rows.specs.Indexed.{dies_within, picked}
+use Rattle.txc_rows.specs.ReplacedIndex.{dies_within, picked}
 use Rattle.txc_rows.proofs.replaced.take_found.Given as goal
 
 abbrev pub invariant-loop-spot : goal.invariant-loop-spot

@@ -4,8 +4,8 @@ use Rattle.sqlite.specs.Steps.{over_memory}
 use Rattle.sqlite.specs.State.{ExecutesInside}
 use Rattle.sqlite.proofs.Callers.{memory_is_clean}
 use Rattle.txc_rows.specs.declared.texts.TheConstants.{ADD_LATEST}
-use Rattle.txc_rows.specs.Stored.{cells_of, placed_from}
-use Rattle.txc_rows.specs.Kept.{latest_in, HasLatest}
+use Rattle.txc_rows.specs.StoredVersion.{cells_of, placed_from}
+use Rattle.txc_rows.specs.LatestTable.{latest_in, HasLatest}
 use Rattle.txc_rows.proofs.WriteLemmas.{adds_latest}
 use Rattle.txc_rows.proofs.SweepCalls.{bound_cells}
 use Rattle.txc_rows.proofs.HeldLemmas.{steps, has_latest}

@@ -1,6 +1,6 @@
 use Rattle.std.proofs.Common.{◌≡◌, [], OnOk, subst, rules}
 use Rattle.sqlite.proofs.Callers.{memory_is_clean}
-use Rattle.txc_rows.specs.Kept.{latest_in, IsKept}
+use Rattle.txc_rows.specs.LatestTable.{latest_in, IsKept}
 use Rattle.txc_rows.proofs.SweepCalls.{made_kept, made_empty}
 use Rattle.txc_rows.proofs.statements.create.Goals as goal
 

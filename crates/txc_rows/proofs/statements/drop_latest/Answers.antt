@@ -1,7 +1,7 @@
 use Rattle.std.proofs.Common.{[]}
 use Rattle.sqlite.proofs.Callers.{memory_is_clean}
 use Rattle.txc_rows.specs.declared.texts.TheConstants.{DROP_LATEST}
-use Rattle.txc_rows.specs.Kept.{HasNoTable}
+use Rattle.txc_rows.specs.LatestTable.{HasNoTable}
 use Rattle.txc_rows.proofs.MakeLemmas.{drops_latest}
 use Rattle.txc_rows.proofs.HeldLemmas.{steps}
 use Rattle.txc_rows.proofs.statements.drop_latest.Goals as goal

@@ -1,8 +1,8 @@
 use Rattle.std.proofs.Common.{◌≡◌, ◌+◌, ◌++◌, ◌∷◌, [], map, drop, sym, ap, subst, ◌∙◌, refl, append_assoc, append-nil}
 use Rattle.std.specs.List.{AllByRecursion}
 use Rattle.std.proofs.lemmas.List.{drop_all}
-use Rattle.txc_rows.specs.Stored.{AreCells, placed_from}
-use Rattle.txc_rows.specs.Kept.{latest_in}
+use Rattle.txc_rows.specs.StoredVersion.{AreCells, placed_from}
+use Rattle.txc_rows.specs.LatestTable.{latest_in}
 use Rattle.txc_rows.proofs.SweepCalls.{next_first}
 use Rattle.txc_rows.proofs.statements.fill_latest.Goals as goal
 

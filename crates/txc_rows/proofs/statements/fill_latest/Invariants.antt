@@ -2,8 +2,8 @@ use Rattle.std.proofs.Common.{◌≡◌, ◌++◌, true, map, drop}
 use Rattle.std.specs.List.{AllByRecursion}
 use Rattle.sqlite.specs.Held.{state}
 use Rattle.sqlite.specs.Steps.{over_memory}
-use Rattle.txc_rows.specs.Stored.{AreCells, placed_from}
-use Rattle.txc_rows.specs.Kept.{latest_in, HasTable}
+use Rattle.txc_rows.specs.StoredVersion.{AreCells, placed_from}
+use Rattle.txc_rows.specs.LatestTable.{latest_in, HasTable}
 use Rattle.txc_rows.proofs.statements.fill_latest.Given as goal
 
 abbrev pub invariant-loop-row : goal.invariant-loop-row

@@ -1,7 +1,7 @@
 use Rattle.std.proofs.Common.{[]}
 use Rattle.sqlite.proofs.Callers.{memory_is_clean}
 use Rattle.txc_rows.specs.declared.texts.TheConstants.{MAKE_LATEST}
-use Rattle.txc_rows.specs.Kept.{HasLatest}
+use Rattle.txc_rows.specs.LatestTable.{HasLatest}
 use Rattle.txc_rows.proofs.MakeLemmas.{makes_latest}
 use Rattle.txc_rows.proofs.HeldLemmas.{steps}
 use Rattle.txc_rows.proofs.statements.make_latest.Goals as goal

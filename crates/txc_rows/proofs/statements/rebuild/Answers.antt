@@ -3,8 +3,8 @@ use Rattle.std.specs.List.Sorted.{IsPermutation}
 use Rattle.std.proofs.lemmas.Result.{err_from_is_err_and}
 use Rattle.sqlite.proofs.Callers.{memory_is_clean}
 use Rattle.txc_rows.specs.Placed.{placed_left}
-use Rattle.txc_rows.specs.Stored.{placed_from}
-use Rattle.txc_rows.specs.Kept.{latest_in, HasLatest, IsCall}
+use Rattle.txc_rows.specs.StoredVersion.{placed_from}
+use Rattle.txc_rows.specs.LatestTable.{latest_in, HasLatest, IsCall}
 use Rattle.txc_rows.proofs.HeldLemmas.{refused_call, recast_ok, recast_err}
 use Rattle.txc_rows.proofs.SweepCalls.{undone_since, begun_base, rebuilt_call}
 use Rattle.txc_rows.proofs.statements.rebuild.Goals.{After-commit}

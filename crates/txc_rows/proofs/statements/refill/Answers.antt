@@ -1,6 +1,6 @@
 use Rattle.std.proofs.Common.{◌++◌, map, ap, ◌∙◌}
-use Rattle.txc_rows.specs.Stored.{placed_from}
-use Rattle.txc_rows.specs.Kept.{latest_in, HasLatest}
+use Rattle.txc_rows.specs.StoredVersion.{placed_from}
+use Rattle.txc_rows.specs.LatestTable.{latest_in, HasLatest}
 use Rattle.txc_rows.proofs.ChangeSteps.{then_step}
 use Rattle.txc_rows.proofs.statements.refill.Goals as goal
 

@@ -2,7 +2,7 @@ use Rattle.std.proofs.Common.{Err, ap, arith, ◌≡◌, ◌<◌, ◌≤◌, ◌
 use Rattle.std.proofs.lemmas.List.Sorted.{length_permutation}
 use Rattle.txc_rows.specs.declared.store_error.StoreError.TheVariants.{TooManyRows}
 use Rattle.txc_rows.proofs.PutLemmas.{all_front, all_back}
-use Rattle.txc_rows.specs.Holdable.{IsStorable}
+use Rattle.txc_rows.specs.StorableVersions.{IsStorable}
 use Rattle.txc_rows.specs.declared.store_error.TheConstants.{MAX_MATCHING}
 use Rattle.txc_rows.proofs.FindLemmas.{asked, found_latest, found_both, latest_many, replaced_few, replaced_many, found_all, passed_error}
 use Rattle.txc_rows.proofs.store.find_all.Goals as goal

@@ -1,6 +1,6 @@
 use Rattle.std.proofs.Common.{Err, ap, ◌≡◌, ◌<◌, ◌≤◌, ◌+◌, ℕ, length, subst, arith, rules}
 use Rattle.txc_rows.specs.declared.store_error.StoreError.TheVariants.{TooManyRows}
-use Rattle.txc_rows.specs.Holdable.{IsStorable}
+use Rattle.txc_rows.specs.StorableVersions.{IsStorable}
 use Rattle.txc_rows.proofs.PutLemmas.{all_front, all_back}
 use Rattle.txc_rows.proofs.FindLemmas.{asked, found_latest, latest_many, replaced_few, replaced_many, passed_error}
 use Rattle.txc_rows.proofs.CurrentLemmas.{last_current}

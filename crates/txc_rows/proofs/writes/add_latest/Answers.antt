@@ -6,8 +6,8 @@ use Rattle.sqlite.proofs.Callers.{memory_is_clean}
 use Rattle.txc_rows.specs.declared.texts.TheConstants.{ADD_LATEST}
 use Rattle.txc_rows.specs.declared.placed.Placed.{Placed}
 use Rattle.txc_rows.specs.Placed.{new_placed}
-use Rattle.txc_rows.specs.Stored.{cells_of}
-use Rattle.txc_rows.specs.Kept.{latest_in, HasLatest}
+use Rattle.txc_rows.specs.StoredVersion.{cells_of}
+use Rattle.txc_rows.specs.LatestTable.{latest_in, HasLatest}
 use Rattle.txc_rows.proofs.WriteLemmas.{adds_latest}
 use Rattle.txc_rows.proofs.HeldLemmas.{steps, has_latest}
 use Rattle.txc_rows.proofs.writes.add_latest.Goals as goal

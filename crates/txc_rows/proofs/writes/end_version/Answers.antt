@@ -5,8 +5,8 @@ use Rattle.sqlite.specs.State.{ExecutesInside}
 use Rattle.sqlite.proofs.Callers.{memory_is_clean}
 use Rattle.txc_rows.specs.declared.texts.TheConstants.{END_VERSION}
 use Rattle.txc_rows.specs.Placed.{closed_placed}
-use Rattle.txc_rows.specs.Stored.{number}
-use Rattle.txc_rows.specs.Kept.{latest_in, HasLatest}
+use Rattle.txc_rows.specs.StoredVersion.{number}
+use Rattle.txc_rows.specs.LatestTable.{latest_in, HasLatest}
 use Rattle.txc_rows.proofs.PutLemmas.{few_current}
 use Rattle.txc_rows.proofs.WriteLemmas.{closes}
 use Rattle.txc_rows.proofs.HeldLemmas.{steps, has_latest}

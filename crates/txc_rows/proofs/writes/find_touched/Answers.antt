@@ -1,4 +1,4 @@
-use Rattle.txc_rows.specs.Kept.{latest_in}
+use Rattle.txc_rows.specs.LatestTable.{latest_in}
 use Rattle.txc_rows.proofs.ChangeSteps.{known_touched}
 use Rattle.txc_rows.proofs.writes.find_touched.Goals as goal
 

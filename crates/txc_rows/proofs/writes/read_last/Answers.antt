@@ -5,7 +5,7 @@ use Rattle.sqlite.specs.Order.{Row}
 use Rattle.sqlite.specs.State.{Shown, FailsToQuery, IsTooLate}
 use Rattle.sqlite.proofs.Callers.{memory_is_clean}
 use Rattle.txc_rows.specs.declared.texts.TheConstants.{READ_LAST}
-use Rattle.txc_rows.specs.Stored.{number}
+use Rattle.txc_rows.specs.StoredVersion.{number}
 use Rattle.txc_rows.proofs.HeldLemmas.{last_step, last_touched}
 use Rattle.txc_rows.proofs.writes.read_last.Goals as goal
 

@@ -5,7 +5,7 @@ use Rattle.sqlite.specs.State.{ExecutesInside}
 use Rattle.sqlite.proofs.Callers.{memory_is_clean}
 use Rattle.txc_rows.specs.declared.texts.TheConstants.{RENEW_LATEST}
 use Rattle.txc_rows.specs.Placed.{renewed}
-use Rattle.txc_rows.specs.Kept.{latest_in, HasLatest}
+use Rattle.txc_rows.specs.LatestTable.{latest_in, HasLatest}
 use Rattle.txc_rows.proofs.PutLemmas.{few_keys}
 use Rattle.txc_rows.proofs.WriteLemmas.{renew_params, renews}
 use Rattle.txc_rows.proofs.HeldLemmas.{steps, has_latest}

@@ -1,7 +1,7 @@
 use Rattle.std.proofs.Common.{◌≡◌, ◌+◌, length, take, Err, ap, subst, ◌∙◌, rules}
 use Rattle.txc_rows.specs.Versions.{after_net}
 use Rattle.txc_rows.specs.Placed.{AreAll}
-use Rattle.txc_rows.specs.Kept.{latest_in, versions_of, IsCall}
+use Rattle.txc_rows.specs.LatestTable.{latest_in, versions_of, IsCall}
 use Rattle.txc_rows.proofs.ChangeSteps.{taken_back}
 use Rattle.txc_rows.proofs.writes.write_all.Goals as goal
 

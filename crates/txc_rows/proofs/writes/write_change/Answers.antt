@@ -1,7 +1,7 @@
 use Rattle.std.proofs.Common.{◌+◌, map, sym, subst}
 use Rattle.txc_rows.specs.Versions.{after_write}
 use Rattle.txc_rows.specs.Placed.{closed_placed}
-use Rattle.txc_rows.specs.Kept.{latest_in, versions_of, HasWritten}
+use Rattle.txc_rows.specs.LatestTable.{latest_in, versions_of, HasWritten}
 use Rattle.txc_rows.proofs.ChangeSteps.{removed_all, others_ended, known_still}
 use Rattle.txc_rows.proofs.writes.write_change.Goals as goal
 

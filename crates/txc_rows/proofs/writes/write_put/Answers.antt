@@ -1,7 +1,7 @@
 use Rattle.std.proofs.Common.{◌≡◌, map, filter, length, cond, false, is_none, ◌∙◌, rules}
 use Rattle.std.specs.Prelude.{option_to_list}
 use Rattle.txc_rows.specs.Placed.{in_group, closed_placed}
-use Rattle.txc_rows.specs.Kept.{latest_in, HasLatest}
+use Rattle.txc_rows.specs.LatestTable.{latest_in, HasLatest}
 use Rattle.txc_rows.proofs.PutLemmas.{few_keys}
 use Rattle.txc_rows.proofs.ChangeSteps.{Puts, one_group, puts}
 use Rattle.txc_rows.proofs.writes.write_put.Goals.{In_ok-ended}

@@ -7,11 +7,11 @@ use Rattle.sqlite.specs.Steps.{over_memory}
 use Rattle.sqlite.proofs.Callers.{memory_is_clean}
 use Rattle.sqlite_trees.specs.declared.memory.MemStore.{MemStore}
 use Rattle.txc_rows.specs.Versions.{after_net}
-use Rattle.txc_rows.specs.Holdable.{IsStorable}
+use Rattle.txc_rows.specs.StorableVersions.{IsStorable}
 use Rattle.txc_rows.specs.declared.placed.Placed.{Placed}
 use Rattle.txc_rows.specs.Placed.{versions_by_place, AreBelow, AreWellPlaced, AreAll, AreAmong}
-use Rattle.txc_rows.specs.Stored.{placed_all}
-use Rattle.txc_rows.specs.Kept.{latest_in, versions_of, IsCall, IsKept, HasWritten}
+use Rattle.txc_rows.specs.StoredVersion.{placed_all}
+use Rattle.txc_rows.specs.LatestTable.{latest_in, versions_of, IsCall, IsKept, HasWritten}
 use Rattle.txc_rows.proofs.PutLemmas.{all_front}
 use Rattle.txc_rows.proofs.HeldLemmas.{AreStorable, table_by, undone_call, refused_call, ended_call, recast_ok, recast_err}
 use Rattle.txc_rows.proofs.ChangeSteps.{longer_itself, longer_then}
@@ -63,10 +63,10 @@ pub returns-in_err-one-clause-longer : goal.returns-in_err-one-clause-longer
 returns-in_err-one-clause-longer c = longer_then c.args.replaced.now c.loop-change.replaced c.write_change.new.replaced c.loop-change.invariant.longer c.in_err-one.ensures.longer
 
 -- what a commit of all changes is to leave
-abbrev Written : After-commit → List Placed → Type 0
-Written c = AreAll (after_net c.args.stamp c.args.net.now (versions_of c.args.replaced.now (latest_in c.args.conn.now))) (c.args.place + length c.args.net.now) c.loop-change.replaced
+abbrev WriteCounts : After-commit → List Placed → Type 0
+WriteCounts c = AreAll (after_net c.args.stamp c.args.net.now (versions_of c.args.replaced.now (latest_in c.args.conn.now))) (c.args.place + length c.args.net.now) c.loop-change.replaced
 
-committed : (c : After-commit) → IsCall (Written c) c.args.conn.now c.commit.new.self.0 c.commit.result
+committed : (c : After-commit) → IsCall (WriteCounts c) c.args.conn.now c.commit.new.self.0 c.commit.result
 committed c =
     let mid = c.loop-change.tx.conn.now in
     let end = c.commit.new.self.0 in
@@ -75,12 +75,12 @@ committed c =
     let past = drop_all c.loop-change.change-index c.args.net.now c.loop-change-test.false in
     let last : c.loop-change.next ≡ c.args.place + length c.args.net.now = omega (arith, i.next, i.within, c.loop-change-test.false) in
     let apart = i.written.all.apart in
-    let written : Written c (latest_in mid) = record {
+    let written : WriteCounts c (latest_in mid) = record {
       apart = apart;
       written = record { versions_are = ap (λ cs. after_net c.args.stamp cs (versions_of replaced (latest_in mid))) (sym past) ∙ i.rest; below = rw (← last) i.written.all.written.below };
     } in
     let each : AreStorable (latest_in mid) = all_front (λ x. IsStorable x.version) (latest_in mid) replaced apart.each in
-    ended_call (Written c) c.args.conn.now mid end c.commit.result c.requires.kept i.written.table each written i.base c.commit.ensures.ended (c.commit.ensures.ok (memory_is_clean end)) (c.commit.ensures.err (memory_is_clean end)) i.inside
+    ended_call (WriteCounts c) c.args.conn.now mid end c.commit.result c.requires.kept i.written.table each written i.base c.commit.ensures.ended (c.commit.ensures.ok (memory_is_clean end)) (c.commit.ensures.err (memory_is_clean end)) i.inside
 
 pub returns-in_err-commit-clause-call : goal.returns-in_err-commit-clause-call
 returns-in_err-commit-clause-call c =
@@ -88,9 +88,9 @@ returns-in_err-commit-clause-call c =
     let end = c.commit.new.self.0 in
     let after = (goal.at.returns-in_err-commit-clause-call c).After-commit in
     let same : end ≡ c.conn-2-1.given.0 = search rules in
-    let failed : IsCall (Written after) old end (Err c.in_err-commit.field-0.0) = subst (IsCall (Written after) old end) c.in_err-commit.was (committed after) in
+    let failed : IsCall (WriteCounts after) old end (Err c.in_err-commit.field-0.0) = subst (IsCall (WriteCounts after) old end) c.in_err-commit.was (committed after) in
     let p = err_from_is_err_and c.from_residual-in_err-commit.result c.from_residual-in_err-commit.ensures.1 in
-    rw p.1 (subst (λ h. IsCall (Written after) old h (Err p.0)) same (recast_err (Written after) old end c.in_err-commit.field-0.0 p.0 failed))
+    rw p.1 (subst (λ h. IsCall (WriteCounts after) old h (Err p.0)) same (recast_err (WriteCounts after) old end c.in_err-commit.field-0.0 p.0 failed))
 
 pub returns-clause-call : goal.returns-clause-call
 returns-clause-call c =
@@ -98,8 +98,8 @@ returns-clause-call c =
     let end = c.commit.new.self.0 in
     let after = (goal.at.returns-clause-call c).After-commit in
     let same : end ≡ c.conn-2-1.given.0 = search rules in
-    let done : IsCall (Written after) old end (Ok c.in_ok-commit.field-0) = subst (IsCall (Written after) old end) c.in_ok-commit.was (committed after) in
-    subst (λ h. IsCall (Written after) old h (Ok c.loop-change.written)) same (recast_ok (Written after) old end c.in_ok-commit.field-0 c.loop-change.written done)
+    let done : IsCall (WriteCounts after) old end (Ok c.in_ok-commit.field-0) = subst (IsCall (WriteCounts after) old end) c.in_ok-commit.was (committed after) in
+    subst (λ h. IsCall (WriteCounts after) old h (Ok c.loop-change.written)) same (recast_ok (WriteCounts after) old end c.in_ok-commit.field-0 c.loop-change.written done)
 
 pub returns-in_err-commit-clause-longer : goal.returns-in_err-commit-clause-longer
 returns-in_err-commit-clause-longer c = c.loop-change.invariant.longer

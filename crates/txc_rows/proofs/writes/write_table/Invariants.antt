@@ -3,7 +3,7 @@ use Rattle.sqlite.specs.Held.{state}
 use Rattle.sqlite.specs.Steps.{over_memory}
 use Rattle.txc_rows.specs.Versions.{after_net}
 use Rattle.txc_rows.specs.Placed.{AreAmong, AddsAtEnd}
-use Rattle.txc_rows.specs.Kept.{latest_in, versions_of, HasWritten}
+use Rattle.txc_rows.specs.LatestTable.{latest_in, versions_of, HasWritten}
 use Rattle.txc_rows.proofs.writes.write_table.Given as goal
 
 abbrev pub invariant-loop-change : goal.invariant-loop-change

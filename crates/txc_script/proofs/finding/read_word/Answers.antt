@@ -2,14 +2,14 @@ use Rattle.std.proofs.Common.{◌≡◌, ℕ, List, None, Result, Ok, Err, refl,
 use Rattle.std.specs.Prelude.{IsErr, IsErrAnd}
 use Rattle.txc_script.specs.LineFaults.{IsUnsaid, IsWordRead, StopsAt}
 use Rattle.txc_script.specs.Lines.{IsTextWord}
-use Rattle.txc_script.specs.SaidWords.{IsOfKind}
+use Rattle.txc_script.specs.ParsedWords.{IsOfKind}
 use Rattle.txc_script.specs.declared.line_fault.WordKind.{WordKind}
 use Rattle.txc_script.specs.declared.line_fault.WordKind.TheVariants.{Tags, Text}
-use Rattle.txc_script.specs.declared.said.Said.{Said}
-use Rattle.txc_script.specs.declared.unread.Unsaid.{Unsaid}
+use Rattle.txc_script.specs.declared.parsed_word.ParsedWord.{ParsedWord}
+use Rattle.txc_script.specs.declared.unread.WordError.{WordError}
 use Rattle.txc_script.proofs.finding.read_word.Goals as goal
 
-passed_on : (kind k : WordKind) (word : List ℕ) (r : Result Said Unsaid) (e : Unsaid) → kind ≡ k → IsErr r × IsErrAnd r (λ x. x ≡ e) → IsUnsaid k word e → IsWordRead kind word r
+passed_on : (kind k : WordKind) (word : List ℕ) (r : Result ParsedWord WordError) (e : WordError) → kind ≡ k → IsErr r × IsErrAnd r (λ x. x ≡ e) → IsUnsaid k word e → IsWordRead kind word r
 passed_on kind k word (Ok said) e is h unsaid = absurd h.1
 passed_on kind k word (Err x) e is h unsaid = subst (IsUnsaid kind word) (sym h.1) (subst (λ (j : WordKind). IsUnsaid j word e) (sym is) unsaid)
 

@@ -1,7 +1,7 @@
 use Rattle.std.proofs.Common.{Err, length, ap, arith, rules, refl, subst, sym, ◌∙◌}
 use Rattle.txc_script.specs.LineFaults.{IsWordRead, kinds_for}
 use Rattle.txc_script.specs.Words.{words_left}
-use Rattle.txc_script.specs.declared.unread.Unsaid.{Unsaid}
+use Rattle.txc_script.specs.declared.unread.WordError.{WordError}
 use Rattle.txc_script.proofs.SaidKinds.{all_read, bad_read, none_read, one_more_read}
 use Rattle.txc_script.proofs.WordFaults.{kinds_count, none_left}
 use Rattle.txc_script.proofs.reading.read_each.Goals as goal
@@ -21,7 +21,7 @@ pub returns-in-Err-Bad-clause-refused : goal.returns-in-Err-Bad-clause-refused
 returns-in-Err-Bad-clause-refused g c =
     let after = words_left c.next-word.new.self in
     let word = c.next-word.result.now in
-    let bad = subst (λ (u : Unsaid). IsWordRead c.next_kind-kind.result.0 word (Err u)) c.in-Err-Bad.field-0-is c.in-Err-Bad.ensures in
+    let bad = subst (λ (u : WordError). IsWordRead c.next_kind-kind.result.0 word (Err u)) c.in-Err-Bad.field-0-is c.in-Err-Bad.ensures in
     rw c.in-Err-Bad.field-0-is (
       sym (kinds_count c.args.kinds.now c.args.other (words_left c.args.words)),
       bad_read _ (words_left c.args.words) _ _ word (words_left c.loop-before.left) after c.loop-before.said.items c.loop-before.before _ c.loop-before.invariant.read

@@ -1,6 +1,6 @@
 use Rattle.std.proofs.Common.{List, IfErr, IfOk, subst, ◌∙◌}
 use Rattle.txc_script.specs.LineFaults.{IsKindsFault, IsWrong}
-use Rattle.txc_script.specs.SaidWords.{SayAll}
+use Rattle.txc_script.specs.ParsedWords.{SayAll}
 use Rattle.txc_script.specs.Words.{words_left}
 use Rattle.txc_script.specs.declared.line_fault.WordKind.{WordKind}
 use Rattle.txc_script.specs.declared.line_fault.WordKind.TheVariants.{Key}

@@ -1,8 +1,8 @@
 use Rattle.std.proofs.Common.{◌≡◌, [], ◌∷◌, Some, ap, refl, sym, subst, ◌∙◌}
-use Rattle.txc_functions.specs.Program.{program}
-use Rattle.txc_registry.specs.Activity.{begun, idle, running, WantsAnswer}
-use Rattle.txc_registry.specs.Objects.{Objects, activity_of}
-use Rattle.txc_registry.proofs.Offered.{here_after, asking_there, idle_there}
+use Rattle.txcache_functions.specs.Program.{program}
+use Rattle.txc_call_registry.specs.Activity.{begun, idle, running, WantsAnswer}
+use Rattle.txc_call_registry.specs.Objects.{Objects, activity_of}
+use Rattle.txc_call_registry.proofs.Offered.{here_after, asking_there, idle_there}
 use Rattle.txc_uses.proofs.functions.activation.Goals as goal
 
 pub begin-requires : goal.begin-requires

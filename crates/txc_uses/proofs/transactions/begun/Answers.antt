@@ -1,9 +1,9 @@
 use Rattle.std.proofs.Common.{sym, subst}
 use Rattle.std.specs.Prelude.{All}
 use Rattle.std.proofs.lemmas.List.Elements.{All-nil}
-use Rattle.txc_ports.specs.Answers.{IsFresh}
-use Rattle.txc_functions.specs.Program.{program}
-use Rattle.txc_ports.specs.declared.bounds.Bounds.{Bounds}
+use Rattle.txc_txn_ports.specs.Answers.{IsFresh}
+use Rattle.txcache_functions.specs.Program.{program}
+use Rattle.txc_txn_ports.specs.declared.bounds.Bounds.{Bounds}
 use Rattle.txc_uses.proofs.transactions.begun.Goals as goal
 
 -- no pin has to be fresh

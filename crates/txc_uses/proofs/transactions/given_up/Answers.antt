@@ -1,4 +1,4 @@
-use Rattle.txc_functions.specs.Program.{program}
+use Rattle.txcache_functions.specs.Program.{program}
 use Rattle.txc_uses.proofs.transactions.given_up.Goals as goal
 
 pub start-turn-requires-clause-fits : goal.start-turn-requires-clause-fits

@@ -1,7 +1,7 @@
 use Rattle.std.proofs.Common.{rules, ◌≡◌, sym}
 use Rattle.std.proofs.lemmas.List.Elements.{All-head, All-push, All-rest, All-same}
-use Rattle.txc_registry.specs.Objects.{numbers_of}
-use Rattle.txc_client.specs.Txn.{ClientValue}
+use Rattle.txc_call_registry.specs.Objects.{numbers_of}
+use Rattle.txc_txn_client.specs.RoTxn.{ClientValue}
 use Rattle.txc_work.specs.Workers.{IsWorkerOf}
 use Rattle.txc_work.proofs.worker.equip.Goals as goal
 

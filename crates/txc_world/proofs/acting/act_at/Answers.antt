@@ -1,8 +1,8 @@
 use Rattle.std.proofs.Common.{◌≡◌, ◌<◌, ◌≤◌, Option, Some, length, refl, ap, sym, subst, arith, ◌∙◌, slice_get, slice_set}
 use Rattle.std.proofs.lemmas.Option.{slice_get_read}
 use Rattle.txc_world.specs.declared.actor.Actor.{Actor}
-use Rattle.txc_world.specs.Acted.{IsActed}
-use Rattle.txc_world.specs.Acts.{ActTransition}
+use Rattle.txc_world.specs.ActorStep.{IsActed}
+use Rattle.txc_world.specs.StepEffects.{ActTransition}
 use Rattle.txc_world.specs.Actors.{IsActor, IsActorThere}
 use Rattle.txc_world.specs.ActorValues.{actor_value}
 use Rattle.txc_world.specs.Ports.{whole_of, PortsValue}
@@ -19,7 +19,7 @@ returns-in-Some g c =
           ∙ ap Some acts.there;
       others = ap (λ (a : Option (Actor g.row.A.Denot g.row.C.Denot)). slice_set c.args.actors.now.items c.args.number a) acts.left;
       acted = acts.acted;
-      leads = acts.leads;
+      transition = acts.transition;
     }
 
 -- nothing was done there, so that the actor which is taken out is the one that stood there
@@ -53,5 +53,5 @@ returns g c =
           ∙ ap Some (sym c.in_default.ensures.unchanged.1 ∙ sym c.take.ensures.value ∙ c.in-Some-take.is);
       others = refl;
       acted = subst (λ (v : PortsValue). IsActed next c.args.act.now v done.new.ports actor done.result.0 done.result.1) same done.ensures.acted;
-      leads = subst (λ (v : PortsValue). ActTransition next c.args.renew_after c.args.number c.args.act.now v done.new.ports (actor_value actor) (actor_value done.result.0) done.result.1) same done.ensures.leads;
+      transition = subst (λ (v : PortsValue). ActTransition next c.args.renew_after c.args.number c.args.act.now v done.new.ports (actor_value actor) (actor_value done.result.0) done.result.1) same done.ensures.transition;
     }

@@ -1,12 +1,12 @@
 use Rattle.std.proofs.Common.{◌≡◌, ◌∙◌, length, sym, subst, rules}
-use Rattle.txc_db.specs.Seen.{FrontValue}
-use Rattle.txc_ports.specs.Asking.{MayAsk}
-use Rattle.txc_ports.specs.Fronts.{front_of_reply}
-use Rattle.txc_ports.specs.declared.turn.Turn.TheVariants.{Ask}
+use Rattle.txc_db.specs.FrontsAndFeeds.{FrontValue}
+use Rattle.txc_txn_ports.specs.PortRequests.{MayAsk}
+use Rattle.txc_txn_ports.specs.Fronts.{front_of_reply}
+use Rattle.txc_txn_ports.specs.declared.turn.Turn.TheVariants.{Ask}
 use Rattle.txc_txn.proofs.Offered.{adds_next, adds_weaker, is_answered, is_right, may_ask}
 use Rattle.txc_world.proofs.AskLemmas.{still_asked, told_history}
 use Rattle.txc_world.proofs.Turning.{asked_at, counted_in, seen_next}
-use Rattle.txc_world.specs.Asks.{PortRequestTransition}
+use Rattle.txc_world.specs.PortRequests.{PortRequestTransition}
 use Rattle.txc_world.specs.Parts.{IsPartOf}
 use Rattle.txc_world.specs.Ports.{whole_of}
 use Rattle.txc_world.specs.Holdings.{account_of_core, HasLost}
@@ -45,7 +45,7 @@ returns-clause-asks g c =
       port = c.told-did.result.0;
       right = asked.to;
       tells = c.told-did.ensures.tells;
-      leads = subst (λ (f : FrontValue). PortRequestTransition c.args.pass f c.args.request c.args.ports.now c.ask-reply.new.self c.told-did.result.1) seen asked.leads;
+      transition = subst (λ (f : FrontValue). PortRequestTransition c.args.pass f c.args.request c.args.ports.now c.ask-reply.new.self c.told-did.result.1) seen asked.transition;
       counts = search rules;
       went = c.next-turn.ensures;
     }
@@ -60,20 +60,20 @@ pub returns-clause-adds : goal.returns-clause-adds
 returns-clause-adds g c =
     let asked = still_asked g.A.App.next c.args.pass _ c.args.ports.now c.ask-reply.new.self c.args.request c.ask-reply.result c.told-did.result.1 c.told-did.ensures.same c.ask-reply.ensures in
     adds_next (IsPartOf (whole_of c.ask-reply.new.self)) g.A.App.next c.args.txn.now c.next-turn.new.self c.next-turn.result
-    c.told-did.result.1 asked.shown c.next-turn.ensures.adds c.next-turn.ensures.leads
+    c.told-did.result.1 asked.shown c.next-turn.ensures.adds c.next-turn.ensures.transition
 
 pub returns-clause-history : goal.returns-clause-history
 returns-clause-history g c =
     let asked = still_asked g.A.App.next c.args.pass _ c.args.ports.now c.ask-reply.new.self c.args.request c.ask-reply.result c.told-did.result.1 c.told-did.ensures.same c.ask-reply.ensures in
-    told_history c.args.ports.now c.ask-reply.new.self c.told-did.result.0 c.args.txn.now.core.bounds.now c.args.pass _ c.args.request c.told-did.result.1 asked.leads c.told-did.ensures.tells
+    told_history c.args.ports.now c.ask-reply.new.self c.told-did.result.0 c.args.txn.now.core.bounds.now c.args.pass _ c.args.request c.told-did.result.1 asked.transition c.told-did.ensures.tells
     (asked_at c.args.txn.now.core c.args.request c.requires.asks)
     ∙ sym (rw c.counted-did.ensures (counted_in _ c.told-did.result.0 c.args.txn.now.core.bounds.now c.args.ports.now.database.history))
 
-pub returns-clause-fair : goal.returns-clause-fair
-returns-clause-fair g c =
+pub returns-clause-own_only : goal.returns-clause-own_only
+returns-clause-own_only g c =
     let asked = still_asked g.A.App.next c.args.pass _ c.args.ports.now c.ask-reply.new.self c.args.request c.ask-reply.result c.told-did.result.1 c.told-did.ensures.same c.ask-reply.ensures in
     fair_gone_on c.args.ports.now c.ask-reply.new.self c.args.txn.now.core c.next-turn.new.self.core c.args.request c.told-did.result.1 c.requires.asks
-    asked.counts.fair c.next-turn.ensures.taken c.next-turn.ensures.left
+    asked.counts.own_only c.next-turn.ensures.taken c.next-turn.ensures.left
 
 pub returns-clause-loss : goal.returns-clause-loss
 returns-clause-loss g c =
@@ -91,9 +91,9 @@ returns-clause-lost g c =
     c.args.txn.now.core c.args.txn.now.objects c.told-did.result.1
     (is_answered g.A.App.next c.args.txn.now.core c.args.request c.told-did.result.1 c.requires.asks asked.to) c.requires.drops
     (loss_port g.A.App.next c.args.txn.now.objects c.args.ports.now c.args.txn.now.core c.args.request c.told-did.result.1 c.is_kept.ensures.fits c.requires.asks asked.counts.gone)
-    c.next-turn.ensures.leads
+    c.next-turn.ensures.transition
 
 pub returns-clause-drops : goal.returns-clause-drops
 returns-clause-drops g c =
     drops_next g.A.App.next c.args.txn.now c.next-turn.new.self c.told-did.result.1 c.next-turn.result
-    c.next-turn.ensures.turn_fits c.next-turn.ensures.left c.next-turn.ensures.leads
+    c.next-turn.ensures.turn_fits c.next-turn.ensures.left c.next-turn.ensures.transition

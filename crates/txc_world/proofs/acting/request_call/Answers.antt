@@ -1,14 +1,14 @@
 use Rattle.std.proofs.Common.{◌≡◌, Option, Some, ap, refl, sym, subst, ◌∙◌}
 use Rattle.std.specs.Prelude.{option_map}
-use Rattle.txc_ports.specs.declared.request.PortRequest.{PortRequest}
-use Rattle.txc_ports.specs.Turns.{IsAsk, PortTurn}
-use Rattle.txc_txn.specs.Core.{open_call, recorded_after, IsNoValue, IsTurn}
+use Rattle.txc_txn_ports.specs.declared.request.PortRequest.{PortRequest}
+use Rattle.txc_txn_ports.specs.Turns.{IsAsk, PortTurn}
+use Rattle.txc_txn.specs.TxnCore.{open_call, recorded_after, IsNoValue, IsTurn}
 use Rattle.txc_world.specs.declared.actor.OpenCall.{OpenCall}
 use Rattle.txc_world.specs.declared.reply.Reply.TheVariants.{Ended}
 use Rattle.txc_world.specs.Actors.{HasCall, IsOpenCall}
 use Rattle.txc_world.specs.Holdings.{account_of_core, HasLost}
 use Rattle.txc_world.specs.ActorValues.{call_value, opened, reads}
-use Rattle.txc_world.specs.Losing.{IfTurnLost}
+use Rattle.txc_world.specs.LostSnapshot.{IfTurnLost}
 use Rattle.txc_world.specs.Ports.{whole_of}
 use Rattle.txc_world.proofs.Fairness.{counts_itself}
 use Rattle.txc_world.proofs.Transitions.{noted_seen}
@@ -44,7 +44,7 @@ returns-in-Ask-clause-acted g c =
       keeps = c.go_on-did.ensures.keeps;
       spare = c.go_on-did.ensures.spare;
       counts = record {
-        fair = c.go_on-did.ensures.fair;
+        own_only = c.go_on-did.ensures.own_only;
         loss = (
           c.go_on-did.ensures.loss,
           noted_lost (HasLost c.args.ports.now (account_of_core core)) (opened key) turn c.note-call.result.0 c.note-call.result.1 c.note-call.ensures c.go_on-did.ensures.lost,
@@ -74,15 +74,15 @@ returns-in-Ended-clause-acted g c =
           (never_lost (HasLost c.args.ports.now (account_of_core core)) c.in-Ended.result (subst (λ (t : PortTurn). IfTurnLost t ⊥) c.in-Ended.is call.not_lost));
     }
 
-pub returns-in-Ended-clause-leads : goal.returns-in-Ended-clause-leads
-returns-in-Ended-clause-leads g c = rw (sym c.take.ensures.value ∙ c.in-Some.is, c.in-Ended.is) (
+pub returns-in-Ended-clause-transition : goal.returns-in-Ended-clause-transition
+returns-in-Ended-clause-transition g c = rw (sym c.take.ensures.value ∙ c.in-Some.is, c.in-Ended.is) (
   refl,
   ap (λ (o : Option (OpenCall PortRequest)). reads (record { txn = c.args.current.now.txn; call = option_map call_value o })) c.take.ensures.after,
   refl,
 )
 
-pub returns-in-Ask-clause-leads : goal.returns-in-Ask-clause-leads
-returns-in-Ask-clause-leads g c = rw (sym c.take.ensures.value ∙ c.in-Some.is, c.in-Ask.is) (record {
+pub returns-in-Ask-clause-transition : goal.returns-in-Ask-clause-transition
+returns-in-Ask-clause-transition g c = rw (sym c.take.ensures.value ∙ c.in-Some.is, c.in-Ask.is) (record {
   txn = c.go_on-did.new.txn;
   call = option_map call_value c.note-call.result.0;
   did = c.go_on-did.result.0;

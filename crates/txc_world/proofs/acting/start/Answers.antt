@@ -3,10 +3,10 @@ use Rattle.txc_tags.specs.Keys.{Call}
 use Rattle.txc_txn.specs.Transitions.{StartTransition}
 use Rattle.txc_world.specs.declared.actor.Actor.TheVariants.{Reading}
 use Rattle.txc_world.specs.declared.reply.Refusal.TheVariants.{MidCall}
-use Rattle.txc_world.specs.declared.step.Act.TheVariants.{Start}
+use Rattle.txc_world.specs.declared.step.ActorStep.TheVariants.{Start}
 use Rattle.txc_world.specs.declared.reply.Reply.TheVariants.{Started}
 use Rattle.txc_world.specs.ActorValues.{call_at_turn, reads}
-use Rattle.txc_txn.specs.Core.{CoreValue}
+use Rattle.txc_txn.specs.TxnCore.{CoreValue}
 use Rattle.txc_txn.proofs.Offered.{adds_none}
 use Rattle.txc_world.specs.Parts.{IsPartOf}
 use Rattle.txc_world.specs.Ports.{whole_of}
@@ -22,12 +22,12 @@ returns-then-is_some-clause-acted g c =
     refused_so g.A.App.next (Start c.args.key.now) c.args.whole.now (Reading c.args.current.now) MidCall c.requires.fits
     (reading_mid_call g.A.App.next 0 c.args.whole.now c.args.current.now (Start c.args.key.now) (sym c.is_some.ensures ∙ c.if-is_some.true) (inl (c.args.key.now, refl))).0 tt
 
-pub returns-then-is_some-clause-leads : goal.returns-then-is_some-clause-leads
-returns-then-is_some-clause-leads g c = λ next pass.
+pub returns-then-is_some-clause-transition : goal.returns-then-is_some-clause-transition
+returns-then-is_some-clause-transition g c = λ next pass.
     (reading_mid_call next pass c.args.whole.now c.args.current.now (Start c.args.key.now) (sym c.is_some.ensures ∙ c.if-is_some.true) (inl (c.args.key.now, refl))).1
 
-pub returns-clause-leads : goal.returns-clause-leads
-returns-clause-leads g c = λ next pass.
+pub returns-clause-transition : goal.returns-clause-transition
+returns-clause-transition g c = λ next pass.
     let no_call = none_by_test c.args.current.now.call (sym c.is_some.ensures ∙ c.if-is_some.false) in
     rw no_call (
       refl,
@@ -35,7 +35,7 @@ returns-clause-leads g c = λ next pass.
         txn = c.start-turn.new.self;
         turn = c.start-turn.result;
         actor_is = ap (λ (k : Call). reads (record { txn = c.start-turn.new.self; call = Some (call_at_turn k c.start-turn.result) })) c.copy-2.ensures;
-        leads = subst (λ (k : Call). StartTransition c.args.current.now.txn.core c.args.current.now.txn.objects k c.start-turn.new.self.core c.start-turn.new.self.objects c.start-turn.result) c.copy.ensures c.start-turn.ensures.leads;
+        transition = subst (λ (k : Call). StartTransition c.args.current.now.txn.core c.args.current.now.txn.objects k c.start-turn.new.self.core c.start-turn.new.self.objects c.start-turn.result) c.copy.ensures c.start-turn.ensures.transition;
         same = c.start-turn.ensures.same;
       },
     )
@@ -57,7 +57,7 @@ returns-clause-acted g c =
           key = λ asks. c.start-turn.ensures.begins asks ∙ ap Some (c.copy.ensures ∙ sym c.copy-2.ensures);
           adds = adds_none (IsPartOf whole) c.start-turn.result c.start-turn.ensures.no_add;
           not_lost = start_not_lost ⊥ new c.start-turn.new.self.objects c.start-turn.result core c.args.current.now.txn.objects
-              c.copy.result c.start-turn.ensures.leads;
+              c.copy.result c.start-turn.ensures.transition;
           drops = none_left new c.start-turn.ensures.left;
         };
       };

@@ -1,7 +1,7 @@
 use Rattle.std.proofs.Common.{◌≡◌, ◌∙◌, false, sym, subst}
 use Rattle.std.specs.Prelude.{OnOk}
 use Rattle.txc_db.specs.DatabaseValue.{front_of}
-use Rattle.txc_db.specs.Seen.{FrontValue}
+use Rattle.txc_db.specs.FrontsAndFeeds.{FrontValue}
 use Rattle.txc_shared.specs.Nodes.{IsLonger}
 use Rattle.txc_world.proofs.NodeLemmas.{advanced_so}
 use Rattle.txc_world.proofs.nodes.advance.Goals as goal

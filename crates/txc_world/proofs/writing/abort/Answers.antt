@@ -4,8 +4,8 @@ use Rattle.txc_world.proofs.PortsLemmas.{keeps_itself}
 use Rattle.txc_world.specs.declared.reply.Reply.TheVariants.{Aborted}
 use Rattle.txc_world.proofs.writing.abort.Goals as goal
 
-pub returns-clause-leads : goal.returns-clause-leads
-returns-clause-leads g c = (
+pub returns-clause-transition : goal.returns-clause-transition
+returns-clause-transition g c = (
   refl,
   (c.cancel-unpin.ensures.idle, c.cancel-unpin.ensures.functions, c.base-base.ensures),
   ap (λ (stamp : ℕ). Aborted (Some stamp)) c.base-base.ensures,

@@ -9,6 +9,6 @@ returns-in-Start-clause-acted g c =
     refused_so g.A.App.next c.args.act.now c.args.ports.now (Writing c.args.current) MidCall c.requires
     (writing_mid_call g.A.App.next c.args.ports.now c.args.current c.args.act.now (sym c.is_some.ensures ∙ c.if-is_some.true) c.in-Start.is).0 tt
 
-pub returns-in-Start-clause-leads : goal.returns-in-Start-clause-leads
-returns-in-Start-clause-leads g c =
+pub returns-in-Start-clause-transition : goal.returns-in-Start-clause-transition
+returns-in-Start-clause-transition g c =
     (writing_mid_call g.A.App.next c.args.ports.now c.args.current c.args.act.now (sym c.is_some.ensures ∙ c.if-is_some.true) c.in-Start.is).1

@@ -3,44 +3,44 @@ use Rattle.std.specs.Prelude.{Result, Vec}
 use Rattle.std.specs.declared.alloc.Global.{Global}
 use Rattle.txc_rows.specs.States.{RowValue}
 use Rattle.txc_rows.specs.declared.query.Query.{Query}
-use Rattle.txc_ports.specs.declared.error.TxnError.{TxnError}
-use Rattle.txc_rw.specs.declared.given.Given.TheVariants as given
-use Rattle.txc_rw.specs.Core.{RwHolds, RwValue}
+use Rattle.txc_txn_ports.specs.declared.error.TxnError.{TxnError}
+use Rattle.txc_txn_rw.specs.declared.given.Given.TheVariants as given
+use Rattle.txc_txn_rw.specs.RwCore.{RwHolds, RwValue}
 use Rattle.txc_world.specs.declared.actor.OpenCall.{OpenCall}
 use Rattle.txc_world.specs.Actors.{told_answers, HasRwCall}
 use Rattle.txc_world.specs.Ports.{PortsValue}
 use Rattle.txc_world.specs.declared.reply.Reply.TheVariants.{Answered, Refused}
 use Rattle.txc_world.specs.declared.reply.Refusal.TheVariants.{Transaction}
 use Rattle.txc_world.specs.Holdings.{HasLost}
-use Rattle.txc_world.specs.Losing.{IfResultLost}
-use Rattle.txc_world.specs.Writing.{with_rows, FindTransitionRw, IsRead}
+use Rattle.txc_world.specs.LostSnapshot.{IfResultLost}
+use Rattle.txc_world.specs.WriterStep.{with_rows, FindTransitionRw, IsRead}
 use Rattle.txc_world.proofs.WritingCounts.{based, counts_based}
 use Rattle.txc_world.proofs.WritingLemmas.{fits_queried, still_idle, writing_same}
 use Rattle.txc_world.proofs.PortsLemmas.{keeps_same}
 use Rattle.txc_world.proofs.writing.ask.Goals as goal
 
-pub returns-in-Ok-clause-leads : goal.returns-in-Ok-clause-leads
-returns-in-Ok-clause-leads g c = rw c.requires.no_call (
+pub returns-in-Ok-clause-transition : goal.returns-in-Ok-clause-transition
+returns-in-Ok-clause-transition g c = rw c.requires.no_call (
   c.find.ensures.same_ports,
   record {
     core = c.find.new.core;
     result = Ok c.in-Ok.rows;
     told = refl;
-    found = subst (FindTransitionRw c.args.query.now c.args.current.core.base c.args.ports.now) c.in-Ok.is c.find.ensures.leads;
+    found = subst (FindTransitionRw c.args.query.now c.args.current.core.base c.args.ports.now) c.in-Ok.is c.find.ensures.transition;
     actor_is = refl;
     read = subst (IsRead c.args.query.now c.args.current.core.queried c.find.new.core.queried) c.in-Ok.is c.find.ensures.read;
     same = c.find.ensures.same;
   },
 )
 
-pub returns-in-Err-clause-leads : goal.returns-in-Err-clause-leads
-returns-in-Err-clause-leads g c = rw c.requires.no_call (
+pub returns-in-Err-clause-transition : goal.returns-in-Err-clause-transition
+returns-in-Err-clause-transition g c = rw c.requires.no_call (
   c.find.ensures.same_ports,
   record {
     core = c.find.new.core;
     result = Err c.in-Err.error;
     told = refl;
-    found = subst (FindTransitionRw c.args.query.now c.args.current.core.base c.args.ports.now) c.in-Err.is c.find.ensures.leads;
+    found = subst (FindTransitionRw c.args.query.now c.args.current.core.base c.args.ports.now) c.in-Err.is c.find.ensures.transition;
     actor_is = refl;
     read = subst (IsRead c.args.query.now c.args.current.core.queried c.find.new.core.queried) c.in-Err.is c.find.ensures.read;
     same = c.find.ensures.same;

@@ -2,15 +2,15 @@ use Rattle.std.proofs.Common.{◌≡◌, List, Option, Some, None, refl, ap, sym
 use Rattle.std.specs.Option.{option_map}
 use Rattle.txc_rows.specs.declared.query.Query.{Query}
 use Rattle.txc_tags.specs.Keys.{Call}
-use Rattle.txc_ports.specs.declared.turn.Turn.TheVariants as turns
-use Rattle.txc_ports.specs.Turns.{IsAsk}
-use Rattle.txc_rw.specs.declared.given.Given.{Given}
-use Rattle.txc_rw.specs.Core.{answers_after, IsRwTurn, QueryTurn, RwHolds}
+use Rattle.txc_txn_ports.specs.declared.turn.Turn.TheVariants as turns
+use Rattle.txc_txn_ports.specs.Turns.{IsAsk}
+use Rattle.txc_txn_rw.specs.declared.given.Given.{Given}
+use Rattle.txc_txn_rw.specs.RwCore.{answers_after, IsRwTurn, QueryTurn, RwHolds}
 use Rattle.txc_world.specs.declared.actor.OpenCall.{OpenCall}
 use Rattle.txc_world.specs.Actors.{told_answers, told_by_turn, HasRwCall, IsRwCall}
 use Rattle.txc_world.specs.ActorValues.{actor_value, call_at_turn, call_value, opened}
 use Rattle.txc_world.specs.Holdings.{HasLost}
-use Rattle.txc_world.specs.Losing.{IfTurnLost}
+use Rattle.txc_world.specs.LostSnapshot.{IfTurnLost}
 use Rattle.txc_world.specs.Ports.{PortsValue}
 use Rattle.txc_world.specs.declared.reply.Reply.TheVariants.{Asked, Ended}
 use Rattle.txc_world.proofs.Fairness.{counts_itself}
@@ -21,8 +21,8 @@ use Rattle.txc_world.proofs.WritingCounts.{asked_lost, based, counts_based}
 use Rattle.txc_world.proofs.WritingLemmas.{rw_call_noted, rw_observed_noted}
 use Rattle.txc_world.proofs.writing.request.Goals as goal
 
-pub returns-in-Ask-clause-leads : goal.returns-in-Ask-clause-leads
-returns-in-Ask-clause-leads g c =
+pub returns-in-Ask-clause-transition : goal.returns-in-Ask-clause-transition
+returns-in-Ask-clause-transition g c =
     some_there _ _ (option_map call_value c.args.current.call) (call_at_turn c.in-Some.field-0.key c.in-Some.field-0.turn) (ap (λ (o : Option (OpenCall Query)). option_map call_value o) c.in-Some.is) (
       c.go_on-did.ensures.same_ports,
       rw c.in-Ask.is (record {
@@ -81,8 +81,8 @@ returns-in-Ask-clause-acted g c =
     }
 
 -- the call had ended before any request
-pub returns-in-Ended-clause-leads : goal.returns-in-Ended-clause-leads
-returns-in-Ended-clause-leads g c =
+pub returns-in-Ended-clause-transition : goal.returns-in-Ended-clause-transition
+returns-in-Ended-clause-transition g c =
     some_there _ _ (option_map call_value c.args.current.call) (call_at_turn c.in-Some.field-0.key c.in-Some.field-0.turn) (ap (λ (o : Option (OpenCall Query)). option_map call_value o) c.in-Some.is) (
       refl,
       rw c.in-Ended.is (ap actor_value c.end_call.ensures.actor, c.end_call.ensures.reply),

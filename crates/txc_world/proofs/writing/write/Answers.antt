@@ -2,7 +2,7 @@ use Rattle.txc_world.proofs.WritingLemmas.{fits_with, holds_with, still_open}
 use Rattle.std.proofs.Common.{None, refl, ap, sym, subst}
 use Rattle.std.specs.Prelude.{option_map}
 use Rattle.txc_rows.specs.declared.query.Query.{Query}
-use Rattle.txc_rw.specs.Core.{IsRw, RwHolds, RwValue}
+use Rattle.txc_txn_rw.specs.RwCore.{IsRw, RwHolds, RwValue}
 use Rattle.txc_world.specs.declared.actor.OpenCall.{OpenCall}
 use Rattle.txc_world.specs.Actors.{told_answers, HasRwCall}
 use Rattle.txc_world.specs.Observation.{writing}
@@ -14,12 +14,12 @@ use Rattle.txc_world.specs.declared.reply.Refusal.TheVariants.{Transaction}
 use Rattle.txc_world.specs.declared.reply.Reply.TheVariants.{Kept, Refused}
 use Rattle.txc_world.proofs.writing.write.Goals as goal
 
-pub returns-in-Ok-clause-leads : goal.returns-in-Ok-clause-leads
-returns-in-Ok-clause-leads g c = rw c.requires.no_call
+pub returns-in-Ok-clause-transition : goal.returns-in-Ok-clause-transition
+returns-in-Ok-clause-transition g c = rw c.requires.no_call
     (refl, ap (λ (core : RwValue). writes (record { core = core; objects = c.args.current.registry; call = None })) c.in-Ok.ensures.after)
 
-pub returns-in-Err-clause-leads : goal.returns-in-Err-clause-leads
-returns-in-Err-clause-leads g c = rw c.requires.no_call
+pub returns-in-Err-clause-transition : goal.returns-in-Err-clause-transition
+returns-in-Err-clause-transition g c = rw c.requires.no_call
     (refl, ap (λ (core : RwValue). writes (record { core = core; objects = c.args.current.registry; call = None })) c.in-Err.ensures.unchanged)
 
 pub returns-in-Ok-clause-acted : goal.returns-in-Ok-clause-acted

@@ -28,7 +28,7 @@ use Rattle.std_alloc.proofs.BoxSteps.Form.{P}
 use Rattle.std.proofs.raw_atomic.Walks.{proved_at, leaves}
 use Rattle.std.specs.contracts.alloc.Global as Heap
 use Rattle.txc_node.specs.Cache.{empty_cache}
-use Rattle.txc_c.specs.Counted.{Counted}
+use Rattle.txc_c.specs.CountedNode.{Counted}
 use Rattle.txc_c.proofs.AsBox.{E}
 use Rattle.txc_c.specs.contracts.handle.Slot as slot
 use Rattle.txc_c.specs.contracts.handle.Slot.empty.{ended, clauses}

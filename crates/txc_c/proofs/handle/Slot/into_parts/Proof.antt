@@ -3,7 +3,7 @@ use mathlib.Core.Path.{◌≡◌, refl, sym, subst}
 use mathlib.Core.Bool.{Bool, true}
 use contract.Monad.{Fun, fact}
 use Rattle.std_alloc.specs.Box.Ownership.{box_owns}
-use Rattle.txc_rows.specs.Owned.{when}
+use Rattle.txc_rows.specs.HandleOwnership.{when}
 use Rattle.std.specs.contracts.impls.GlobalAllocator.TheImpl.{ghosts}
 use Rattle.txc_c.specs.contracts.counted.CountedNode as Core
 use Rattle.txc_c.specs.contracts.handle.Slot as SlotType

@@ -2,7 +2,7 @@ use Rattle.std.proofs.Common.{◌≡◌, Option, Some, None, Result, ap}
 use Rattle.txc_tags.specs.Keys.{Call}
 use Rattle.txc_app.specs.declared.ask.Ask.{Ask}
 use Rattle.txc_caller.specs.Ports.{HasGrownDatabase}
-use Rattle.txc_caller.specs.Reading.{CallerValue, KeepsCaller}
+use Rattle.txc_caller.specs.CallerTxn.{CallerValue, KeepsCaller}
 use Rattle.txc_caller.specs.declared.step.CallerError.{CallerError}
 use Rattle.txc_caller.specs.declared.step.Step.{Step}
 use Rattle.txc_caller.proofs.Letting.{grown_same}

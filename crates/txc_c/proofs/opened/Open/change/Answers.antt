@@ -2,9 +2,9 @@ use Rattle.std.proofs.Common.{◌++◌, ◌∷◌, [], List, sym, subst}
 use Rattle.std.specs.Prelude.{Result, Ok, Err}
 use Rattle.txc_rows.specs.declared.query.Change.{Change}
 use Rattle.txc_rows.specs.declared.query.Change.TheVariants.{Put, Remove}
-use Rattle.txc_ports.specs.declared.error.TxnError.{TxnError}
-use Rattle.txc_caller.specs.Reading.{CallerValue}
-use Rattle.txc_caller.specs.Writing.{ChangeLeaves, CallerWriting, IsWriteOf}
+use Rattle.txc_txn_ports.specs.declared.error.TxnError.{TxnError}
+use Rattle.txc_caller.specs.CallerTxn.{CallerValue}
+use Rattle.txc_caller.specs.CallerWrite.{ChangeLeaves, CallerWriting, IsWriteOf}
 use Rattle.txc_c.specs.Opaque.{opaque_next}
 use Rattle.txc_c.specs.Opened.{IsOpenOf}
 use Rattle.txc_c.specs.declared.opened.Open.{Open}

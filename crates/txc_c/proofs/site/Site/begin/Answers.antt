@@ -1,9 +1,9 @@
 use Rattle.std.proofs.Common.{◌≡◌, ℕ, inr, refl, sym, subst}
-use Rattle.txc_ports.specs.declared.bounds.Bounds.{Bounds}
-use Rattle.txc_crossing.specs.declared.numbers.TheConstants.{DONE, NO_MEMORY}
+use Rattle.txc_txn_ports.specs.declared.bounds.Bounds.{Bounds}
+use Rattle.txc_c_types.specs.declared.numbers.TheConstants.{DONE, NO_MEMORY}
 use Rattle.txc_caller.proofs.Letting.{grown_then}
 use Rattle.txc_c.specs.Sites.{HasMadeRoom, SiteValue}
-use Rattle.txc_c.specs.Turning.{BeginPlaced}
+use Rattle.txc_c.specs.BeginAndEnd.{BeginPlaced}
 use Rattle.txc_c.specs.declared.opened.Open.TheVariants.{Reading}
 use Rattle.txc_c.proofs.Asked.{asked_so}
 use Rattle.txc_c.proofs.Beginning.{caught_up, reading_begun, reading_not_begun}

@@ -1,9 +1,9 @@
 use Rattle.std.proofs.Common.{◌≡◌, ℕ, ap, inr, refl, sym, subst}
 use Rattle.txc_db.specs.Calls.{IsHoldRefused}
-use Rattle.txc_crossing.specs.declared.numbers.TheConstants.{DONE}
-use Rattle.txc_caller.specs.Reading.{CallerValue}
+use Rattle.txc_c_types.specs.declared.numbers.TheConstants.{DONE}
+use Rattle.txc_caller.specs.CallerTxn.{CallerValue}
 use Rattle.txc_c.specs.Sites.{HasMadeRoom, SiteValue}
-use Rattle.txc_c.specs.Turning.{BeginsWriting}
+use Rattle.txc_c.specs.BeginAndEnd.{BeginsWriting}
 use Rattle.txc_c.specs.declared.opened.Open.TheVariants.{Writing}
 use Rattle.txc_c.proofs.Beginning.{writing_begun, writing_not_begun}
 use Rattle.txc_c.proofs.Going.{begun_site, may_add}

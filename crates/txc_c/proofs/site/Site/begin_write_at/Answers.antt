@@ -1,10 +1,10 @@
 use Rattle.std.proofs.Common.{◌≡◌, ℕ, ap, inr, refl, sym, subst}
 use Rattle.txc_db.specs.Steps.{IsBaseRefused}
-use Rattle.txc_crossing.specs.declared.numbers.TheConstants.{DONE}
+use Rattle.txc_c_types.specs.declared.numbers.TheConstants.{DONE}
 use Rattle.txc_caller.proofs.Letting.{grown_same}
-use Rattle.txc_caller.specs.Reading.{CallerValue}
+use Rattle.txc_caller.specs.CallerTxn.{CallerValue}
 use Rattle.txc_c.specs.Sites.{HasMadeRoom, SiteValue}
-use Rattle.txc_c.specs.Turning.{BeginWritePlaced, BeginsWritingAt}
+use Rattle.txc_c.specs.BeginAndEnd.{BeginWritePlaced, BeginsWritingAt}
 use Rattle.txc_c.specs.declared.opened.Open.TheVariants.{Writing}
 use Rattle.txc_c.proofs.Asked.{asked_so}
 use Rattle.txc_c.proofs.Beginning.{writing_begun, writing_not_begun}

@@ -1,6 +1,6 @@
 use Rattle.std.proofs.Common.{◌≡◌, ℕ, ap, sym, subst}
 use Rattle.txc_c.specs.Sites.{HasTakenOut, IsPlaced, SiteValue}
-use Rattle.txc_c.specs.Turning.{HasCommittedWrites}
+use Rattle.txc_c.specs.BeginAndEnd.{HasCommittedWrites}
 use Rattle.txc_c.specs.declared.opened.Open.{Open}
 use Rattle.txc_c.specs.declared.opened.Open.TheVariants.{Writing}
 use Rattle.txc_c.specs.declared.opened.Opened.{Opened}

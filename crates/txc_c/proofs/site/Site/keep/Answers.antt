@@ -1,5 +1,5 @@
 use Rattle.std.proofs.Common.{refl, subst}
-use Rattle.txc_c.specs.Keeping.{KeepComesTo}
+use Rattle.txc_c.specs.Maintenance.{SiteKeepTransition}
 use Rattle.txc_c.specs.Sites.{SiteValue}
 use Rattle.txc_c.proofs.Places.{caller_site}
 use Rattle.txc_c.proofs.site.Site.keep.Goals as goal
@@ -12,4 +12,4 @@ invariant_of-self c =
 pub returns : goal.returns
 returns c =
     let old : SiteValue = record { caller = c.self.inside.caller; opened = c.self.inside.opened; begun = c.self.inside.begun } in
-    subst (λ (s : SiteValue). KeepComesTo c.args.now c.args.age c.args.kept.now c.keep.new.kept s c.keep.result (record old { caller = c.keep.new.caller })) c.self.view_is (c.keep.ensures.kept, refl)
+    subst (λ (s : SiteValue). SiteKeepTransition c.args.now c.args.age c.args.kept.now c.keep.new.kept s c.keep.result (record old { caller = c.keep.new.caller })) c.self.view_is (c.keep.ensures.kept, refl)

@@ -1,9 +1,9 @@
 use Rattle.std.proofs.Common.{◌≡◌, Bool, sym, subst}
 use Rattle.std.specs.Bool.{MatchBool}
 use Rattle.slab.specs.Slab.{with_value}
-use Rattle.txc_crossing.specs.declared.numbers.TheConstants.{BAD_ARGUMENT}
+use Rattle.txc_c_types.specs.declared.numbers.TheConstants.{BAD_ARGUMENT}
 use Rattle.txc_rows.specs.declared.query.Query.{Query}
-use Rattle.txc_c.specs.Asking.{ActsAs, QueryAct}
+use Rattle.txc_c.specs.Calls.{ActsAs, QueryAct}
 use Rattle.txc_c.specs.Receipts.{query_of}
 use Rattle.txc_c.specs.Sites.{SiteValue, Stays}
 use Rattle.txc_c.proofs.Acting.{acted, acted_site}

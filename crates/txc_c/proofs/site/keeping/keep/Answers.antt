@@ -27,13 +27,13 @@ pub returns-in-Ok-sweep-clause-kept : goal.returns-in-Ok-sweep-clause-kept
 returns-in-Ok-sweep-clause-kept c =
     kept_on c.args.now c.args.age c.args.caller.now c.retire.new.self _ c.in-Ok.retired _ c.args.kept.now _ c.in-Ok.ensures.retired c.retire.ensures.same c.in-Ok.ensures.answer
     (vacuumed_on _ c.vacuum.new.self _ c.in-Ok-vacuum.horizon c.number-kept.result _ _ _ c.in-Ok-vacuum.ensures.after c.vacuum.ensures.same c.in-Ok-vacuum.ensures.answer c.number-kept.ensures.answer
-    (record { swept = Ok c.in-Ok-sweep.count; leads = c.in-Ok-sweep.ensures.leads; same = c.sweep.ensures.same; number_is = refl; told = refl }))
+    (record { swept = Ok c.in-Ok-sweep.count; transition = c.in-Ok-sweep.ensures.transition; same = c.sweep.ensures.same; number_is = refl; told = refl }))
 
 pub returns-in-Err-sweep-clause-kept : goal.returns-in-Err-sweep-clause-kept
 returns-in-Err-sweep-clause-kept c =
     kept_on c.args.now c.args.age c.args.caller.now c.retire.new.self _ c.in-Ok.retired _ c.args.kept.now _ c.in-Ok.ensures.retired c.retire.ensures.same c.in-Ok.ensures.answer
     (vacuumed_on _ c.vacuum.new.self _ c.in-Ok-vacuum.horizon c.number-kept.result _ _ _ c.in-Ok-vacuum.ensures.after c.vacuum.ensures.same c.in-Ok-vacuum.ensures.answer c.number-kept.ensures.answer
-    (record { swept = Err c.in-Err-sweep.error; leads = c.in-Err-sweep.ensures.leads; same = c.sweep.ensures.same; number_is = c.node_number.ensures; told = refl }))
+    (record { swept = Err c.in-Err-sweep.error; transition = c.in-Err-sweep.ensures.transition; same = c.sweep.ensures.same; number_is = c.node_number.ensures; told = refl }))
 
 -- ---- what it keeps
 

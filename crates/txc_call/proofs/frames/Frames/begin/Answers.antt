@@ -1,7 +1,7 @@
 use Rattle.std.proofs.Common.{◌≡◌, Some, ap, ◌∙◌}
-use Rattle.txc_registry.specs.Activity.{begun, idle, running}
-use Rattle.txc_registry.specs.Objects.{Objects, activity_of, with_activity}
-use Rattle.txc_registry.proofs.Offered.{restored}
+use Rattle.txc_call_registry.specs.Activity.{begun, idle, running}
+use Rattle.txc_call_registry.specs.Objects.{Objects, activity_of, with_activity}
+use Rattle.txc_call_registry.proofs.Offered.{restored}
 use Rattle.txc_call.proofs.OpenFrames.{free_below, opened_at}
 use Rattle.txc_call.proofs.frames.Frames.begin.Goals as goal
 

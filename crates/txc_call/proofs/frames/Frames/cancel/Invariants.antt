@@ -1,5 +1,5 @@
 use Rattle.std.proofs.Common.{◌≡◌, length}
-use Rattle.txc_registry.specs.Objects.{numbers_of, AllIdle}
+use Rattle.txc_call_registry.specs.Objects.{numbers_of, AllIdle}
 use Rattle.txc_call.specs.Frames.{released}
 use Rattle.txc_call.proofs.frames.Frames.cancel.Given as goal
 

@@ -2,7 +2,7 @@ use Rattle.std.proofs.Common.{◌≡◌, ◌⊎◌, ◌<◌, Some, sym, ap, subs
 use Rattle.txc_tags.specs.Keys.{Call}
 use Rattle.txc_call.specs.declared.need.Need.TheVariants as needs
 use Rattle.txc_call.specs.declared.need.Outcome.{Outcome}
-use Rattle.txc_call.specs.Calling.{Calling}
+use Rattle.txc_call.specs.CallMachine.{Calling}
 use Rattle.txc_call.specs.Needs.{NeedFits}
 use Rattle.txc_call.proofs.Keeping.{machine_keeps, reply_counts}
 use Rattle.txc_call.proofs.machine.CallMachine.reply.Goals as goal

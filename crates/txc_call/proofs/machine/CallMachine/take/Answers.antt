@@ -1,8 +1,8 @@
 use Rattle.std.proofs.Common.{◌≡◌, Some, sym, ap, subst, ◌∙◌}
 use Rattle.txc_call.specs.declared.need.Need.{Need}
-use Rattle.txc_call.specs.Calling.{Calling}
+use Rattle.txc_call.specs.CallMachine.{Calling}
 use Rattle.txc_call.specs.Needs.{NeedFits, ReplyFits}
-use Rattle.txc_call.specs.Running.{need_after}
+use Rattle.txc_call.specs.CallSteps.{need_after}
 use Rattle.txc_call.proofs.Keeping.{step_replied_keeps}
 use Rattle.txc_call.proofs.machine.CallMachine.take.Goals as goal
 

@@ -1,7 +1,7 @@
 use Rattle.std.proofs.Common.{ap, inl, sym, subst, ◌∙◌}
-use Rattle.txc_txn.specs.Core.{value_of, IsIdle}
+use Rattle.txc_txn.specs.TxnCore.{value_of, IsIdle}
 use Rattle.txc_caller.specs.Ports.{CallerPorts, HasGrownDatabase}
-use Rattle.txc_caller.specs.Reading.{CallerValue, IsBegunReading}
+use Rattle.txc_caller.specs.CallerTxn.{CallerValue, IsBegunReading}
 use Rattle.txc_caller.proofs.Begun.{begun_reading}
 use Rattle.txc_caller.proofs.Letting.{grown_same}
 use Rattle.txc_caller.proofs.caller.Caller.begin.Goals as goal

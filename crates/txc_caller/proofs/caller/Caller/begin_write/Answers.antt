@@ -1,4 +1,4 @@
-use Rattle.txc_rw.proofs.Holding.{holds_at_first}
+use Rattle.txc_txn_rw.proofs.Holding.{holds_at_first}
 use Rattle.txc_caller.proofs.Writers.{held_within}
 use Rattle.txc_caller.proofs.caller.Caller.begin_write.Goals as goal
 

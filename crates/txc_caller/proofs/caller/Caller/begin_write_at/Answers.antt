@@ -1,5 +1,5 @@
 use Rattle.std.proofs.Common.{refl}
-use Rattle.txc_rw.proofs.Holding.{holds_at_first}
+use Rattle.txc_txn_rw.proofs.Holding.{holds_at_first}
 use Rattle.txc_caller.proofs.Writers.{base_within}
 use Rattle.txc_caller.proofs.caller.Caller.begin_write_at.Goals as goal
 

@@ -1,6 +1,6 @@
 use Rattle.std.proofs.Common.{ap, subst, ◌∙◌}
 use Rattle.txc_caller.specs.Ports.{HasGrownDatabase}
-use Rattle.txc_caller.specs.Reading.{CallerValue}
+use Rattle.txc_caller.specs.CallerTxn.{CallerValue}
 use Rattle.txc_caller.proofs.caller.Caller.pin.Goals as goal
 
 pub returns-clause-caller : goal.returns-clause-caller

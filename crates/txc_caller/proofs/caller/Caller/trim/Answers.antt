@@ -1,6 +1,6 @@
 use Rattle.std.proofs.Common.{ap, subst, ◌∙◌}
 use Rattle.txc_caller.specs.Ports.{CallerPorts, HasGrownDatabase}
-use Rattle.txc_caller.specs.Reading.{CallerValue}
+use Rattle.txc_caller.specs.CallerTxn.{CallerValue}
 use Rattle.txc_caller.proofs.Letting.{grown_same}
 use Rattle.txc_caller.proofs.caller.Caller.trim.Goals as goal
 

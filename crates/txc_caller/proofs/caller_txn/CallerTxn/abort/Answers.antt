@@ -1,5 +1,5 @@
 use Rattle.std.proofs.Common.{◌∙◌, ap}
-use Rattle.txc_txn.specs.Kept.{TxnValue}
+use Rattle.txc_txn.specs.RunningTxn.{TxnValue}
 use Rattle.txc_caller.proofs.Reading.{ended_grown, ended_keeps, ended_so}
 use Rattle.txc_caller.proofs.caller_txn.CallerTxn.abort.Goals as goal
 

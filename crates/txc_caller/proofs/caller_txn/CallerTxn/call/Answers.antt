@@ -2,16 +2,16 @@ use Rattle.std.proofs.Common.{◌≡◌, ◌∙◌, true, None, Option, Some, ap
 use Rattle.std.specs.Prelude.{IsSome}
 use Rattle.txc_tags.specs.Keys.{Call}
 use Rattle.txc_app.specs.declared.ask.Ask.TheVariants as asks
-use Rattle.txc_txn.specs.Kept.{TxnValue}
-use Rattle.txc_caller.specs.Looking.{IsComputedOnMiss}
+use Rattle.txc_txn.specs.RunningTxn.{TxnValue}
+use Rattle.txc_caller.specs.NodeLookup.{IsComputedOnMiss}
 use Rattle.txc_caller.specs.Ports.{HasGrownDatabase}
-use Rattle.txc_caller.specs.Reading.{open_states, CallerValue, IsReadingStep, KeepsTxn}
-use Rattle.txc_caller.specs.Telling.{call_or, top_call, IsToldAfterAsk, ObjectsFollow}
+use Rattle.txc_caller.specs.CallerTxn.{open_states, CallerValue, IsReadingStep, KeepsTxn}
+use Rattle.txc_caller.specs.ComputedFunctions.{call_or, top_call, IsToldAfterAsk, ObjectsFollow}
 use Rattle.txc_caller.proofs.Lent.{resting_idle}
 use Rattle.txc_caller.proofs.Requests.{going_begun, keeps_begun, keeps_then, of_call_begun}
 use Rattle.txc_caller.proofs.Some.{none_of, some_of}
 use Rattle.txc_caller.proofs.Telling.{first_follow, first_told}
-use Rattle.txc_caller.specs.Acting.{step_error, ActLeads}
+use Rattle.txc_caller.specs.CallerAct.{step_error, CallerActTransition}
 use Rattle.txc_caller.proofs.Acting.{begun_leads}
 use Rattle.txc_caller.proofs.caller_txn.CallerTxn.call.Goals as goal
 
@@ -56,7 +56,7 @@ returns-clause-told g c =
     (λ there. let yes : c.is_computing.result ≡ true = c.is_computing.ensures.1 (subst (λ (t : TxnValue). IsSome (top_call t.core.call)) c.self.view_is there) in absurd (cc (yes, c.if-is_computing.false))) in
     subst (λ (t : TxnValue). IsToldAfterAsk g.A.App.next (open_states new.core) t.core.call (asks.Call c.args.key) new.core.call c.serve-step.result) c.self.view_is
     (first_told g.A.App.next old c.start-turn.new.self new c.args.key c.start-turn.result c.start-turn.ensures.begun (resting_idle old.core c.self.invariant.rests closed)
-    (c.self.invariant.lent.functions c.args.key.function c.function-function.ensures.bound) c.self.invariant.lent.meant.fits c.is_lent.ensures.meant c.serve-step.result c.serve-step.ensures.served.goes_on)
+    (c.self.invariant.lent.functions c.args.key.function c.function-function.ensures.bound) c.self.invariant.lent.valid.fits c.is_lent.ensures.valid c.serve-step.result c.serve-step.ensures.served.goes_on)
 
 pub returns-clause-objects : goal.returns-clause-objects
 returns-clause-objects g c =
@@ -66,7 +66,7 @@ returns-clause-objects g c =
     (λ there. let yes : c.is_computing.result ≡ true = c.is_computing.ensures.1 (subst (λ (t : TxnValue). IsSome (top_call t.core.call)) c.self.view_is there) in absurd (cc (yes, c.if-is_computing.false))) in
     subst (λ (t : TxnValue). ObjectsFollow t.objects t.core.call (asks.Call c.args.key) new.objects c.serve-step.result) c.self.view_is
     (first_follow g.A.App.next old c.start-turn.new.self new c.args.key c.start-turn.result c.start-turn.ensures.begun (resting_idle old.core c.self.invariant.rests closed)
-    (c.self.invariant.lent.functions c.args.key.function c.function-function.ensures.bound) c.self.invariant.lent.meant.fits c.is_lent.ensures.meant c.serve-step.result
+    (c.self.invariant.lent.functions c.args.key.function c.function-function.ensures.bound) c.self.invariant.lent.valid.fits c.is_lent.ensures.valid c.serve-step.result
     (c.serve-step.ensures.served.objects old.objects c.start-turn.ensures.objects))
 
 pub returns-clause-on_miss : goal.returns-clause-on_miss
@@ -81,8 +81,8 @@ returns-clause-keeps g c =
     subst (λ (t : TxnValue). KeepsTxn t new) c.self.view_is
     (keeps_then old mid new (keeps_begun old mid c.args.key c.start-turn.result c.start-turn.ensures.begun) c.serve-step.ensures.served.keeps)
 
-pub returns-clause-meant : goal.returns-clause-meant
-returns-clause-meant g c = c.is_lent.ensures.meant
+pub returns-clause-valid : goal.returns-clause-valid
+returns-clause-valid g c = c.is_lent.ensures.valid
 
 pub returns-clause-caller : goal.returns-clause-caller
 returns-clause-caller g c = record {
@@ -93,15 +93,15 @@ returns-clause-caller g c = record {
 pub returns-clause-grown : goal.returns-clause-grown
 returns-clause-grown g c = subst (λ (v : CallerValue). HasGrownDatabase v.ports.database c.serve-step.new.ports.database) c.caller.view_is c.serve-step.ensures.grown
 
-pub returns-clause-leads : goal.returns-clause-leads
-returns-clause-leads g c =
+pub returns-clause-transition : goal.returns-clause-transition
+returns-clause-transition g c =
     let next = g.A.App.next in
     let old = c.self.inside.txn in
     let new = c.serve-step.new.txn in
     let closed = none_of (top_call old.core.call)
     (λ there. let yes : c.is_computing.result ≡ true = c.is_computing.ensures.1 (subst (λ (t : TxnValue). IsSome (top_call t.core.call)) c.self.view_is there) in absurd (cc (yes, c.if-is_computing.false))) in
-    subst (λ (v : CallerValue). ActLeads next.limits v.ports c.args.self.now (asks.Call c.args.key) c.serve-step.new.ports new.core.taken (step_error c.serve-step.result)) c.caller.view_is
-    (subst (λ (t : TxnValue). ActLeads next.limits c.caller.inside.ports t (asks.Call c.args.key) c.serve-step.new.ports new.core.taken (step_error c.serve-step.result)) c.self.view_is
+    subst (λ (v : CallerValue). CallerActTransition next.limits v.ports c.args.self.now (asks.Call c.args.key) c.serve-step.new.ports new.core.taken (step_error c.serve-step.result)) c.caller.view_is
+    (subst (λ (t : TxnValue). CallerActTransition next.limits c.caller.inside.ports t (asks.Call c.args.key) c.serve-step.new.ports new.core.taken (step_error c.serve-step.result)) c.self.view_is
     (begun_leads next old c.start-turn.new.self c.args.key c.start-turn.result c.start-turn.ensures.begun (resting_idle old.core c.self.invariant.rests closed)
     (c.self.invariant.lent.functions c.args.key.function c.function-function.ensures.bound) c.caller.inside.ports c.serve-step.new.ports new.core.taken
-    (step_error c.serve-step.result) c.serve-step.ensures.leads))
+    (step_error c.serve-step.result) c.serve-step.ensures.transition))

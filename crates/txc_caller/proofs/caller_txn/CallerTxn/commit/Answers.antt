@@ -1,9 +1,9 @@
 use Rattle.std.proofs.Common.{◌≡◌, ◌∙◌, true, ap, subst}
 use Rattle.std.specs.Prelude.{IsSome}
-use Rattle.txc_txn.specs.Core.{Explains}
-use Rattle.txc_txn.specs.Kept.{TxnValue}
+use Rattle.txc_txn.specs.TxnCore.{Explains}
+use Rattle.txc_txn.specs.RunningTxn.{TxnValue}
 use Rattle.txc_txn.specs.Sessions.{IsAtLeast}
-use Rattle.txc_caller.specs.Telling.{top_call}
+use Rattle.txc_caller.specs.ComputedFunctions.{top_call}
 use Rattle.txc_caller.proofs.Lent.{resting_idle}
 use Rattle.txc_caller.proofs.Reading.{at_least_of, ended_grown, ended_keeps, ended_so}
 use Rattle.txc_caller.proofs.Some.{none_of}

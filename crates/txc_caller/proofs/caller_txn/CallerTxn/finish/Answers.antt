@@ -1,6 +1,6 @@
 use Rattle.std.proofs.Common.{List, ℕ, sym, subst}
 use Rattle.txc_app.specs.declared.ask.Ask.TheVariants as asks
-use Rattle.txc_caller.specs.Telling.{AsksNext}
+use Rattle.txc_caller.specs.ComputedFunctions.{AsksNext}
 use Rattle.txc_caller.proofs.caller_txn.CallerTxn.finish.Goals as goal
 
 pub act-requires-clause-asks : goal.act-requires-clause-asks

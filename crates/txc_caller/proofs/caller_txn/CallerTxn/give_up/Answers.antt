@@ -1,7 +1,7 @@
 use Rattle.std.proofs.Common.{◌≡◌, inl, subst}
-use Rattle.txc_txn.specs.Core.{CoreValue}
-use Rattle.txc_txn.specs.Kept.{TxnValue}
-use Rattle.txc_caller.specs.Reading.{KeepsTxn}
+use Rattle.txc_txn.specs.TxnCore.{CoreValue}
+use Rattle.txc_txn.specs.RunningTxn.{TxnValue}
+use Rattle.txc_caller.specs.CallerTxn.{KeepsTxn}
 use Rattle.txc_caller.proofs.Lent.{resting_free}
 use Rattle.txc_caller.proofs.Requests.{keeps_call}
 use Rattle.txc_caller.proofs.caller_txn.CallerTxn.give_up.Goals as goal
@@ -22,5 +22,5 @@ returns-clause-keeps g c =
     let new = c.give_up.new.self in
     subst (λ (t : TxnValue). KeepsTxn t new) c.self.view_is (keeps_call c.self.inside.txn new c.give_up.ensures.functions c.give_up.ensures.same)
 
-pub returns-clause-meant : goal.returns-clause-meant
-returns-clause-meant g c = c.is_lent.ensures.meant
+pub returns-clause-valid : goal.returns-clause-valid
+returns-clause-valid g c = c.is_lent.ensures.valid

@@ -1,5 +1,5 @@
 use Rattle.std.proofs.Common.{sym, subst}
-use Rattle.txc_caller.specs.Writing.{CallerWriting, IsWriteOf}
+use Rattle.txc_caller.specs.CallerWrite.{CallerWriting, IsWriteOf}
 use Rattle.txc_caller.proofs.caller_write.CallerWrite.call.Goals as goal
 
 pub returns-clause-of_caller : goal.returns-clause-of_caller

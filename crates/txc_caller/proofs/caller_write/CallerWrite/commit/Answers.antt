@@ -1,10 +1,10 @@
 use Rattle.std.proofs.Common.{◌≡◌, ◌∙◌, true, IsSome, refl, sym, ap, subst}
 use Rattle.txc_db.specs.DatabaseValue.{DatabaseValue}
-use Rattle.txc_rw.specs.Core.{RwHolds, tags_read}
-use Rattle.txc_rw.proofs.Holding.{right_at_base}
-use Rattle.txc_caller.specs.Reading.{CallerValue}
-use Rattle.txc_caller.specs.Telling.{top_call}
-use Rattle.txc_caller.specs.Writing.{CallerWriting}
+use Rattle.txc_txn_rw.specs.RwCore.{RwHolds, tags_read}
+use Rattle.txc_txn_rw.proofs.Holding.{right_at_base}
+use Rattle.txc_caller.specs.CallerTxn.{CallerValue}
+use Rattle.txc_caller.specs.ComputedFunctions.{top_call}
+use Rattle.txc_caller.specs.CallerWrite.{CallerWriting}
 use Rattle.txc_caller.proofs.Letting.{grown_then}
 use Rattle.txc_caller.proofs.Writers.{closed_call, commit_done, commit_left, commit_refused, committed_so, grown_ports, holds_longer, is_committed, keeps_ports}
 use Rattle.txc_caller.proofs.caller_write.CallerWrite.commit.Goals as goal

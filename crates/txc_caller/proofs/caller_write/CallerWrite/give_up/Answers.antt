@@ -1,6 +1,6 @@
 use Rattle.std.proofs.Common.{ap, sym, subst}
-use Rattle.txc_rw.specs.Core.{RwValue}
-use Rattle.txc_caller.specs.Writing.{CallerWriting, IsWriteOf}
+use Rattle.txc_txn_rw.specs.RwCore.{RwValue}
+use Rattle.txc_caller.specs.CallerWrite.{CallerWriting, IsWriteOf}
 use Rattle.txc_caller.proofs.Lent.{all_there}
 use Rattle.txc_caller.proofs.caller_write.CallerWrite.give_up.Goals as goal
 

@@ -1,8 +1,8 @@
 use Rattle.std.proofs.Common.{◌∙◌, sym, subst}
-use Rattle.txc_rw.specs.Core.{RwHolds}
+use Rattle.txc_txn_rw.specs.RwCore.{RwHolds}
 use Rattle.txc_caller.specs.Ports.{CallerPorts}
-use Rattle.txc_caller.specs.Reading.{CallerValue}
-use Rattle.txc_caller.specs.Writing.{CallerWriting, IsWriteOf}
+use Rattle.txc_caller.specs.CallerTxn.{CallerValue}
+use Rattle.txc_caller.specs.CallerWrite.{CallerWriting, IsWriteOf}
 use Rattle.txc_caller.proofs.Writers.{same_fits}
 use Rattle.txc_caller.proofs.caller_write.CallerWrite.read.Goals as goal
 

@@ -1,6 +1,6 @@
 use Rattle.std.proofs.Common.{[], ◌∷◌, ◌++◌}
 use Rattle.txc_rows.specs.declared.query.Change.TheVariants.{Remove}
-use Rattle.txc_caller.specs.Writing.{CallerWriting}
+use Rattle.txc_caller.specs.CallerWrite.{CallerWriting}
 use Rattle.txc_caller.proofs.Writers.{changed_so, written_fits}
 use Rattle.txc_caller.proofs.caller_write.CallerWrite.remove.Goals as goal
 

@@ -5,15 +5,15 @@ use Rattle.txc_tags.specs.declared.key.TheConstants.{LAST_FUNCTION}
 use Rattle.txc_db.specs.History.{History}
 use Rattle.txc_app.specs.declared.app.Limits.{Limits}
 use Rattle.txc_app.specs.Eval.{Next}
-use Rattle.txc_registry.specs.Objects.{Objects}
+use Rattle.txc_call_registry.specs.Objects.{Objects}
 use Rattle.txc_call.specs.declared.need.Need.{Need}
-use Rattle.txc_call.specs.Calling.{Calling}
-use Rattle.txc_call.specs.Running.{NeedsFunction, objects_after}
-use Rattle.txc_told.specs.Steps.{objects_after_ask, objects_after_need}
+use Rattle.txc_call.specs.CallMachine.{Calling}
+use Rattle.txc_call.specs.CallSteps.{NeedsFunction, objects_after}
+use Rattle.txc_call_ghosts.specs.Steps.{objects_after_ask, objects_after_need}
 use Rattle.txc_txn.specs.ByHand.{HasAskedByHand, ObjectsLeft}
-use Rattle.txc_txn.specs.Core.{CoreValue, CoreHolds, open_call, value_of}
-use Rattle.txc_txn.specs.Kept.{TxnValue}
-use Rattle.txc_caller.specs.Telling.{AsksNext}
+use Rattle.txc_txn.specs.TxnCore.{CoreValue, CoreHolds, open_call, value_of}
+use Rattle.txc_txn.specs.RunningTxn.{TxnValue}
+use Rattle.txc_caller.specs.ComputedFunctions.{AsksNext}
 use Rattle.txc_caller.proofs.Lent.{all_there, ask_there, open_runs, some_need, top_stays}
 use Rattle.txc_caller.proofs.lent_txn.LentTxn.ran.Goals as goal
 
@@ -29,7 +29,7 @@ ran-turn-requires g c =
       most_asks = c.limits-limits.ensures.asks;
       runs = runs;
       none = ap (λ (t : TxnValue). t.core.pinning) c.self.view_is ∙ c.requires.none;
-      asks = (g.A.App.next, objects, need.0, sym c.limits-limits.ensures.answer, need.1, asks need.0 need.1, ask_there objects old.call.frames need.0 c.args.ask c.self.invariant.functions c.requires.there, c.self.invariant.meant.fits);
+      asks = (g.A.App.next, objects, need.0, sym c.limits-limits.ensures.answer, need.1, asks need.0 need.1, ask_there objects old.call.frames need.0 c.args.ask c.self.invariant.functions c.requires.there, c.self.invariant.valid.fits);
     }
 
 pub invariant_of-self : goal.invariant_of-self
@@ -54,10 +54,10 @@ invariant_of-self g c =
     let history : new.seen.history ≡ old.seen.history = ap (λ (v : CoreValue). v.seen.history) asked.same in
     let top = subst (λ (o : Option Call). ForSome o (λ (k : Call). k.function ≤ LAST_FUNCTION)) (open_runs old none runs) c.self.invariant.top in
     record {
-      meant = record {
-        fits = c.ran-turn.ensures.fits next objects after need.0 within need.1 (asks need.0 need.1) there left c.self.invariant.meant.fits;
+      valid = record {
+        fits = c.ran-turn.ensures.fits next objects after need.0 within need.1 (asks need.0 need.1) there left c.self.invariant.valid.fits;
         holds = subst (λ (L : History). CoreHolds next L after new) (sym history)
-            (c.ran-turn.ensures.holds next objects after old.seen.history need.0 within need.1 (asks need.0 need.1) there left c.self.invariant.meant.fits c.self.invariant.meant.holds);
+            (c.ran-turn.ensures.holds next objects after old.seen.history need.0 within need.1 (asks need.0 need.1) there left c.self.invariant.valid.fits c.self.invariant.valid.holds);
       };
       functions = all_there objects after (c.settle.ensures.functions ∙ c.ran-after.ensures.functions) c.self.invariant.functions;
       top = top_stays (λ (k : Call). k.function ≤ LAST_FUNCTION) (Some old.call.top) new turn asked.turn_fits asked.goes_on top;

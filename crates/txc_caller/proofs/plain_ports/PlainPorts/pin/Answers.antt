@@ -1,6 +1,6 @@
 use Rattle.std.proofs.Common.{◌∙◌, ap, sym, refl}
 use Rattle.txc_db.specs.DatabaseValue.{DatabaseValue}
-use Rattle.txc_db.specs.Seen.{FrontValue}
+use Rattle.txc_db.specs.FrontsAndFeeds.{FrontValue}
 use Rattle.txc_caller.specs.Ports.{CallerPorts}
 use Rattle.txc_caller.proofs.Pins.{has_pinned}
 use Rattle.txc_caller.proofs.plain_ports.PlainPorts.pin.Goals as goal

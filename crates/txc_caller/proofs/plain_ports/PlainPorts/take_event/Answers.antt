@@ -1,5 +1,5 @@
 use Rattle.std.proofs.Common.{◌∙◌, ap, sym}
-use Rattle.txc_db.specs.Seen.{FrontValue}
+use Rattle.txc_db.specs.FrontsAndFeeds.{FrontValue}
 use Rattle.txc_caller.specs.Budgets.{node_bytes}
 use Rattle.txc_caller.specs.Ports.{CallerPorts}
 use Rattle.txc_caller.proofs.Asked.{ports_with_node}

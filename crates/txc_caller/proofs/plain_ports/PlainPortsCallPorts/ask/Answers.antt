@@ -3,10 +3,10 @@ use Rattle.std.specs.Result.{result_unwrap_or}
 use Rattle.txc_app.specs.Claims.{IsTrueIn, entry_shown}
 use Rattle.txc_db.specs.DatabaseValue.{DatabaseValue}
 use Rattle.txc_db.specs.declared.answered.Answered.{Answered}
-use Rattle.txc_node.specs.declared.hit.Shown.{Shown}
-use Rattle.txc_ports.specs.Asking.{MayAsk}
-use Rattle.txc_ports.specs.declared.request.PortRequest.TheVariants as requests
-use Rattle.txc_ports.specs.declared.reply.PortReply.TheVariants as replies
+use Rattle.txc_node.specs.declared.hit.HitValue.{HitValue}
+use Rattle.txc_txn_ports.specs.PortRequests.{MayAsk}
+use Rattle.txc_txn_ports.specs.declared.request.PortRequest.TheVariants as requests
+use Rattle.txc_txn_ports.specs.declared.reply.PortReply.TheVariants as replies
 use Rattle.txc_caller.specs.Ports.{CallerPorts, HasAskedPorts}
 use Rattle.txc_caller.proofs.Asked.{added_so, asked_add, asked_insert, asked_lookup, asked_pin, asked_query, asked_so, asked_unpin, found_so, hit_row, looked_up, pinned_grown, pinned_so, unpinned_so}
 use Rattle.txc_caller.proofs.Budgets.{inserted_ports, looked_ports}
@@ -59,12 +59,12 @@ returns-in-Lookup g c =
     let new : CallerPorts = record old { node = c.lookup.new.self } in
     let done = c.lookup.ensures in
     let found = result_unwrap_or c.lookup.result None in
-    let leads = looked_up key c.in-Lookup.lo c.in-Lookup.hi old.node new.node c.lookup.result done.after done.answer done.front done.left done.refused in
-    subst (λ (hit : Option (Answered Shown)). HasAskedPorts g.A.App.next c.args.seen.now c.args.request c.args.self.now new (replies.Lookup hit)) (sym c.unwrap_or.ensures)
+    let transition = looked_up key c.in-Lookup.lo c.in-Lookup.hi old.node new.node c.lookup.result done.after done.answer done.front done.left done.refused in
+    subst (λ (hit : Option (Answered HitValue)). HasAskedPorts g.A.App.next c.args.seen.now c.args.request c.args.self.now new (replies.Lookup hit)) (sym c.unwrap_or.ensures)
     (asked_so g.A.App.next c.args.seen.now c.args.request asked c.args.self.now old new (replies.Lookup found) c.in-Lookup.is c.self.view_is
-    (asked_lookup g.A.App.next c.args.seen.now old new c.in-Lookup.node key c.in-Lookup.lo c.in-Lookup.hi found refl leads
+    (asked_lookup g.A.App.next c.args.seen.now old new c.in-Lookup.node key c.in-Lookup.lo c.in-Lookup.hi found refl transition
     (found_so (λ hit. IsTrueIn g.A.App.next hit.front.history (entry_shown key hit.answer)) c.lookup.result done.right)
-    (hit_row old.node new.node key c.in-Lookup.lo c.in-Lookup.hi found old.database.events c.self.invariant.node leads)))
+    (hit_row old.node new.node key c.in-Lookup.lo c.in-Lookup.hi found old.database.events c.self.invariant.node transition)))
 
 pub returns-in-Query : goal.returns-in-Query
 returns-in-Query g c =
@@ -72,7 +72,7 @@ returns-in-Query g c =
     let old : CallerPorts = record { database = c.self.inside.database; cushion = c.self.inside.cushion; node = c.self.inside.node; budget = c.self.inside.budget } in
     let new : CallerPorts = record old { database = c.find.new.database } in
     asked_so g.A.App.next c.args.seen.now c.args.request asked c.args.self.now old new (replies.Query c.find.result) c.in-Query.is c.self.view_is
-    (asked_query g.A.App.next c.args.seen.now old new c.in-Query.query c.in-Query.stamp c.find.result (ap (λ (d : DatabaseValue). record old { database = d }) c.find.ensures.same) c.find.ensures.leads)
+    (asked_query g.A.App.next c.args.seen.now old new c.in-Query.query c.in-Query.stamp c.find.result (ap (λ (d : DatabaseValue). record old { database = d }) c.find.ensures.same) c.find.ensures.transition)
 
 pub returns-in-Insert : goal.returns-in-Insert
 returns-in-Insert g c =

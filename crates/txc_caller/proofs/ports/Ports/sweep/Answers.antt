@@ -5,8 +5,8 @@ use Rattle.txc_caller.proofs.Asked.{swept}
 use Rattle.txc_caller.proofs.Budgets.{swept_ports}
 use Rattle.txc_caller.proofs.ports.Ports.sweep.Goals as goal
 
-pub returns-clause-leads : goal.returns-clause-leads
-returns-clause-leads g c =
+pub returns-clause-transition : goal.returns-clause-transition
+returns-clause-transition g c =
     let inside = c.behind-plain.inside in
     let old : CallerPorts = record { database = inside.database; cushion = inside.cushion; node = inside.node; budget = inside.budget } in
     let done = c.sweep-swept.ensures in

@@ -34,7 +34,7 @@ use Rattle.std_alloc.specs.Box.Ownership.{box_owns}
 use Rattle.std.specs.contracts.impls.GlobalAllocator.TheImpl.{ghosts}
 use Rattle.std_alloc.proofs.BoxSteps.Form.{D, B, word, box_typed}
 use Rattle.std_alloc.proofs.BoxSteps.Steps.{box_out, box_in}
-use Rattle.txc_rows.specs.Owned.{when}
+use Rattle.txc_rows.specs.HandleOwnership.{when}
 use Rattle.txc_app.specs.declared.app.App.{Ghosts}
 use Rattle.txc_caller.specs.contracts.plain_ports.PlainPorts as Core
 use Rattle.txc_caller.specs.contracts.ports_slot.PortsSlot as SlotType

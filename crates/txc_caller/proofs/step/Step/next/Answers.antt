@@ -1,5 +1,5 @@
 use Rattle.std.proofs.Common.{◌∙◌, Option, Some, ap, sym, subst}
-use Rattle.txc_call.specs.Running.{NeedsFunction}
+use Rattle.txc_call.specs.CallSteps.{NeedsFunction}
 use Rattle.txc_call.specs.declared.need.Need.{Need}
 use Rattle.txc_caller.proofs.Served.{begins_next, continues_next}
 use Rattle.txc_caller.proofs.step.Step.next.Goals as goal

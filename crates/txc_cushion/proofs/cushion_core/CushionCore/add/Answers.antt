@@ -3,7 +3,7 @@ use Rattle.txc_db.specs.History.{moment_at}
 use Rattle.txc_cushion.specs.declared.pin.Pin.{Pin}
 use Rattle.txc_cushion.specs.declared.entry.PinEntry.{PinEntry}
 use Rattle.txc_cushion.specs.declared.limits.TheConstants.{MAX_PINS}
-use Rattle.txc_cushion.specs.Pinning.{pin_of}
+use Rattle.txc_cushion.specs.Pin.{pin_of}
 use Rattle.txc_cushion.specs.Entries.{is_pinned, with_entry}
 use Rattle.txc_cushion.specs.Cushion.{CushionValue, longer_of}
 use Rattle.txc_cushion.proofs.Adding.{added_is, moment_stays, longer_is}

@@ -1,4 +1,4 @@
-use Rattle.txc_db.specs.Shared.{IsSharedCommitRefused}
+use Rattle.txc_db.specs.DatabaseReply.{IsSharedCommitRefused}
 use Rattle.txc_db.proofs.Committed.{commit_result}
 use Rattle.txc_db.proofs.Sharing.{may_refuse}
 use Rattle.txc_db.proofs.database.Database.commit.Goals as goal

@@ -3,9 +3,9 @@ use Rattle.txc_rows.specs.declared.query.Change.{Change}
 use Rattle.txc_rows.specs.States.{after_changes}
 use Rattle.txc_rows.specs.RowTags.{tags_between}
 use Rattle.txc_rows.specs.Net.{IsNet}
-use Rattle.txc_rows.specs.Keeping.{KeepsWritten}
+use Rattle.txc_rows.specs.KeptStates.{KeepsWritten}
 use Rattle.txc_db.specs.Facts.{EventValue, commit, net_of}
-use Rattle.txc_db.specs.Held.{HistoryValue, event_in}
+use Rattle.txc_db.specs.HeldHistory.{HistoryValue, event_in}
 use Rattle.txc_db.specs.History.{History, state_at, state_after_event}
 use Rattle.txc_db.specs.DatabaseValue.{DatabaseValue, newest_state}
 use Rattle.txc_db.proofs.Sound.{commit_sound}
@@ -32,10 +32,10 @@ invariant_of-self-else-not-append c =
     ∙ ap (λ (e : EventValue). c.self.inside.told.history ++ e ∷ []) c.in_ok-event.ensures.event) in
     let net : c.net.result.now ≡ c.args.net.changes.items = c.net.ensures ∙ ap (λ (e : EventValue). net_of e.fact) c.in_ok-event.ensures.event in
     let stamp : c.after-stamp.result ≡ suc (length c.self.inside.told.history) = c.after-stamp.ensures ∙ (ap (λ (n : ℕ). n + 1) c.len-events.ensures.shown ∙ add-one (length c.self.inside.told.history)) in
-    let leads = subst (λ (v : DatabaseValue). IsNet (newest_state v) items (after_changes items (newest_state v))) (sym c.self.view_is) c.requires.net in
+    let transition = subst (λ (v : DatabaseValue). IsNet (newest_state v) items (after_changes items (newest_state v))) (sym c.self.view_is) c.requires.net in
     let tags = subst (λ (v : DatabaseValue). c.args.net.tags ≡ tags_between (newest_state v) (after_changes items (newest_state v))) (sym c.self.view_is) c.requires.tags in
     let keeps = subst (λ (n : ℕ). KeepsWritten items n c.self.inside.store c.write.new.self) stamp (subst (λ (ns : List Change). KeepsWritten ns c.after-stamp.result c.self.inside.store c.write.new.self) net c.in_ok-write.ensures.keeps) in (
       rw first c.self.invariant.0,
-      λ whole. rw (events, list) (commit_sound c.versions_keep_states.ensures.agreed _ items (record { fact = commit items; tags = c.args.net.tags }) c.write.new.self refl leads tags keeps (c.self.invariant.1 whole)),
+      λ whole. rw (events, list) (commit_sound c.versions_keep_states.ensures.agreed _ items (record { fact = commit items; tags = c.args.net.tags }) c.write.new.self refl transition tags keeps (c.self.invariant.1 whole)),
       rw (events, first) c.self.invariant.2,
     )

@@ -1,7 +1,7 @@
 use Rattle.std.proofs.Common.{◌≡◌, inr, ℕ, [], ◌∷◌, ◌∙◌, ap, map, sym, subst, arith}
 use Rattle.txc_rows.specs.RowTags.{tags_between}
 use Rattle.txc_rows.specs.Versions.{counted_from, purged}
-use Rattle.txc_rows.specs.Keeping.{KeepsBegun}
+use Rattle.txc_rows.specs.KeptStates.{KeepsBegun}
 use Rattle.txc_stream.specs.Names.{unstored}
 use Rattle.txc_db.specs.Facts.{EventValue}
 use Rattle.txc_db.specs.History.{History, state_after_event}
@@ -12,7 +12,7 @@ use Rattle.txc_db.proofs.db_core.DbCore.begin_anew.Goals as goal
 pub begun-requires-clause-tagged : goal.begun-requires-clause-tagged
 begun-requires-clause-tagged c =
     subst (λ (e : EventValue). e.tags ≡ tags_between [] (state_after_event [] e)) (sym c.of-draft.ensures)
-    (beside_begun c.states_are_maps.ensures.puts c.net_changes_are_differences.ensures.leads (newest_state c.args.self.now))
+    (beside_begun c.states_are_maps.ensures.puts c.net_changes_are_differences.ensures.transition (newest_state c.args.self.now))
 
 pub invariant_of-self-2 : goal.invariant_of-self-2
 invariant_of-self-2 c =
@@ -21,7 +21,7 @@ invariant_of-self-2 c =
     let keeps = subst (λ (v : DatabaseValue). KeepsBegun (newest v) v.versions c.begin_at.new.self) c.self.view_is
     (subst (λ (n : ℕ). KeepsBegun n c.self.inside.store c.begin_at.new.self) c.newest-newest.ensures c.in_ok-begin_at.ensures.keeps) in (
       let first = c.begun.ensures.first in let low = c.after-self-inside.ensures in omega (arith, first, low),
-      λ whole. begun_sound c.states_are_maps.ensures.puts c.net_changes_are_differences.ensures.leads c.args.self.now _ begins (ap (λ (v : DatabaseValue). v.most) c.self.view_is) sound c.after-self-inside.ensures c.clear.ensures.items keeps,
+      λ whole. begun_sound c.states_are_maps.ensures.puts c.net_changes_are_differences.ensures.transition c.args.self.now _ begins (ap (λ (v : DatabaseValue). v.most) c.self.view_is) sound c.after-self-inside.ensures c.clear.ensures.items keeps,
       inr (c.begun.ensures.first ∙ sym c.after-self-inside.ensures),
     )
 
@@ -45,4 +45,4 @@ returns-clause-state c =
       holds = c.clear.new.self.items;
       broken = c.self.inside.broken;
     } in
-    begun_state c.states_are_maps.ensures.puts c.net_changes_are_differences.ensures.leads c.args.self.now new begins (ap (λ (v : DatabaseValue). v.most) c.self.view_is) sound
+    begun_state c.states_are_maps.ensures.puts c.net_changes_are_differences.ensures.transition c.args.self.now new begins (ap (λ (v : DatabaseValue). v.most) c.self.view_is) sound

@@ -10,7 +10,7 @@ use Rattle.txc_rows.specs.Net.{changes_state, net_changes, settled, puts_of}
 use Rattle.txc_db.specs.DatabaseValue.{DatabaseValue, newest, newest_state}
 use Rattle.txc_db.specs.Calls.{row_query, matching_of}
 use Rattle.txc_db.specs.Steps.{IsReadRefused}
-use Rattle.txc_db.specs.NetWith.{found_rows, IsNetWith}
+use Rattle.txc_db.specs.NetGrowth.{found_rows, IsNetWith}
 use Rattle.txc_db.proofs.Histories.{is_state}
 use Rattle.txc_db.proofs.NetRows.{at_in, settled_in, taken_in, few_named, net_more, commit_tags}
 use Rattle.txc_db.proofs.Refusing.{read_refused}
@@ -44,7 +44,7 @@ returns-clause-tags c =
     let whole : c.loop-change.change-index ≡ length c.deref-change-items.result.now = let end = c.loop-change.auto.change-index-end in omega (arith, c.loop-change-test.false, end) in
     let all : take c.loop-change.change-index c.deref-change-items.result.now ≡ settled c.args.changes.now = ap (λ (n : ℕ). take n list) whole ∙ (take-length list ∙ (c.deref-change-items.ensures.value ∙ c.in_ok-settled.ensures)) in
     let items : c.loop-change.net.changes.items ≡ net_changes (newest_state c.args.self.now) c.args.changes.now = inv.net ∙ ap (λ (xs : List Change). filter (changes_state s) xs) all in
-    commit_tags c.net_changes_are_differences.ensures.tags c.net_changes_are_differences.ensures.leads s c.args.changes.now c.add_puts.new.tags (is_state c.states_are_maps.ensures.states c.args.self.now.history (newest c.args.self.now))
+    commit_tags c.net_changes_are_differences.ensures.tags c.net_changes_are_differences.ensures.transition s c.args.changes.now c.add_puts.new.tags (is_state c.states_are_maps.ensures.states c.args.self.now.history (newest c.args.self.now))
     (c.in_ok-add_puts.ensures ∙ (ap (λ (xs : List Change). with_tags (flat_map tags_of_row (puts_of xs)) c.loop-change.net.tags) (c.deref.ensures.value ∙ items)
     ∙ ap (with_tags (flat_map tags_of_row (puts_of net))) (inv.tags ∙ ap (λ (xs : List Change). with_tags (flat_map tags_of_row (found_rows s xs)) []) items)))
 

@@ -6,7 +6,7 @@ use Rattle.txc_rows.specs.Net.{changes_state}
 use Rattle.txc_rows.specs.declared.query.Change.{Change}
 use Rattle.txc_rows.proofs.Offered.{IsIn}
 use Rattle.txc_db.specs.Calls.{matching_of, row_query}
-use Rattle.txc_db.specs.NetWith.{found_rows}
+use Rattle.txc_db.specs.NetGrowth.{found_rows}
 use Rattle.txc_db.specs.DatabaseValue.{newest_state}
 use Rattle.txc_db.proofs.db_core.DbCore.net_of.Given as goal
 

@@ -3,8 +3,8 @@ use mathlib.Core.List.{IsPrefix}
 use Rattle.txc_stream.proofs.Offered.{prefix_push}
 use Rattle.txc_rows.specs.RowTags.{tags_between}
 use Rattle.txc_db.specs.Facts.{EventValue}
-use Rattle.txc_db.specs.Seen.{FrontValue}
-use Rattle.txc_db.specs.Held.{HistoryValue, event_in}
+use Rattle.txc_db.specs.FrontsAndFeeds.{FrontValue}
+use Rattle.txc_db.specs.HeldHistory.{HistoryValue, event_in}
 use Rattle.txc_db.specs.History.{History, pin_event, state_at, state_after_event}
 use Rattle.txc_db.proofs.Sound.{pin_sound}
 use Rattle.txc_db.proofs.db_core.DbCore.pin.Goals as goal

@@ -1,7 +1,7 @@
 use Rattle.std.proofs.Common.{◌≡◌, ◌≤◌, ℕ, List, length, sym, subst, ◌∙◌, arith, rules}
 use Rattle.txc_rows.specs.declared.version.Versioned.{Versioned}
 use Rattle.txc_rows.specs.Versions.{AreVersions, shown_at}
-use Rattle.txc_rows.specs.Around.{ShowsAround}
+use Rattle.txc_rows.specs.FoundAnswers.{ShowsAround}
 use Rattle.txc_validity.specs.Validity.{IsValidity}
 use Rattle.txc_validity.specs.Answers.{IsAnswer}
 use Rattle.txc_db.specs.History.{state_at}

@@ -3,7 +3,7 @@ use Rattle.txc_rows.specs.declared.version.Versioned.{Versioned}
 use Rattle.txc_rows.specs.declared.query.Query.TheVariants.{ById}
 use Rattle.txc_rows.specs.States.{answer}
 use Rattle.txc_rows.specs.Versions.{shown_at}
-use Rattle.txc_rows.specs.Keeping.{ShowsAnswers}
+use Rattle.txc_rows.specs.KeptStates.{ShowsAnswers}
 use Rattle.txc_db.specs.History.{state_at}
 use Rattle.txc_db.specs.DatabaseValue.{DatabaseValue, newest_state}
 use Rattle.txc_db.specs.Calls.{matching_of}

@@ -1,6 +1,6 @@
 use Rattle.std.proofs.Common.{◌≡◌, ◌≤◌, ◌∙◌, inl, inr, ap, sym, subst, ℕ, List, length, max, arith}
 use Rattle.txc_stream.specs.Names.{HasRow}
-use Rattle.txc_db.specs.Held.{HistoryValue}
+use Rattle.txc_db.specs.HeldHistory.{HistoryValue}
 use Rattle.txc_db.specs.DatabaseValue.{least}
 use Rattle.txc_db.proofs.HeldStamps.{within_newest, least_low, least_high}
 use Rattle.txc_db.proofs.Sound.{vacuum_sound}

@@ -1,5 +1,5 @@
 use Rattle.std.proofs.Common.{◌≡◌, ◌∷◌, [], ◌∙◌, ap, sym, subst}
-use Rattle.txc_stream.specs.Shown.{Shown}
+use Rattle.txc_stream.specs.FrontValue.{Shown}
 use Rattle.txc_db.specs.Facts.{EventValue}
 use Rattle.txc_db.specs.History.{AreTagged}
 use Rattle.txc_db.proofs.Begun.{tagged_one}

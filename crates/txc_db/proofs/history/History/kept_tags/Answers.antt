@@ -4,7 +4,7 @@ use Rattle.std.specs.Arc.{arc_value}
 use Rattle.txc_stream.specs.Windows.{WindowValue}
 use Rattle.txc_db.specs.Facts.{EventValue}
 use Rattle.txc_db.specs.History.{History, tags_at}
-use Rattle.txc_db.specs.Held.{HistoryValue, HasWindow}
+use Rattle.txc_db.specs.HeldHistory.{HistoryValue, HasWindow}
 use Rattle.txc_db.proofs.Tagged.{noted_tags}
 use Rattle.txc_db.proofs.history.History.kept_tags.Goals as goal
 

@@ -1,10 +1,10 @@
 use Rattle.std.proofs.Common.{◌≡◌, ◌∷◌, ◌++◌, [], ◌∙◌, Option, Some, length, ap, sym, subst}
-use Rattle.txc_stream.specs.Shown.{Shown}
+use Rattle.txc_stream.specs.FrontValue.{Shown}
 use Rattle.txc_stream.specs.Windows.{WindowValue}
 use Rattle.txc_rows.specs.RowTags.{tags_between}
 use Rattle.txc_db.specs.Facts.{EventValue}
 use Rattle.txc_db.specs.History.{History, AreTagged, state_at, state_after_event}
-use Rattle.txc_db.specs.Held.{HistoryValue, HasWindow}
+use Rattle.txc_db.specs.HeldHistory.{HistoryValue, HasWindow}
 use Rattle.txc_db.proofs.Histories.{tagged_pushed}
 use Rattle.txc_db.proofs.history.History.write.Goals as goal
 

@@ -6,7 +6,7 @@ use Rattle.txc_stream.specs.Names.{Name, stored, HasRow}
 use Rattle.txc_rows.specs.RowTags.{tags_between}
 use Rattle.txc_db.specs.History.{AreTagged, state_after_event, state_at}
 use Rattle.txc_db.specs.Room.{events_room}
-use Rattle.txc_db.specs.Seen.{FrontValue}
+use Rattle.txc_db.specs.FrontsAndFeeds.{FrontValue}
 use Rattle.txc_db.proofs.Histories.{tagged_pushed}
 use Rattle.txc_db.proofs.history_front.HistoryFront.append.Goals.{in-Ok, in-Err}
 use Rattle.txc_db.proofs.history_front.HistoryFront.append.Goals as goal

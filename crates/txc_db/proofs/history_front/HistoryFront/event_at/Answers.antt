@@ -1,6 +1,6 @@
 use Rattle.std.proofs.Common.{◌≡◌, ◌∙◌, ◌+◌, ◌-◌, ap, subst, arith}
 use Rattle.txc_db.specs.History.{tags_at}
-use Rattle.txc_db.specs.Seen.{FrontValue}
+use Rattle.txc_db.specs.FrontsAndFeeds.{FrontValue}
 use Rattle.txc_db.proofs.Tagged.{tagged_at}
 use Rattle.txc_db.proofs.history_front.HistoryFront.event_at.Goals as goal
 

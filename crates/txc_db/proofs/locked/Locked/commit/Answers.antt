@@ -1,6 +1,6 @@
 use Rattle.std.proofs.Common.{◌≡◌, ◌<◌, ◌∙◌, ap, sym, subst, refl, rules, arith}
 use mathlib.Core.List.{IsPrefix}
-use Rattle.txc_db.specs.Seen.{FrontValue}
+use Rattle.txc_db.specs.FrontsAndFeeds.{FrontValue}
 use Rattle.txc_db.specs.History.{History}
 use Rattle.txc_db.specs.DatabaseValue.{DatabaseValue, newest, after_commit}
 use Rattle.txc_db.specs.Calls.{IsCommitRefused}

@@ -1,6 +1,6 @@
 use Rattle.std.proofs.Common.{◌≡◌, List, true, false, refl, ◌∙◌, sym, subst}
 use Rattle.txc_node.specs.declared.place.Place.{Place}
-use Rattle.txc_node.specs.Indexed.{has_place, is_live}
+use Rattle.txc_node.specs.IndexedEntries.{has_place, is_live}
 use Rattle.txc_node.proofs.Buckets.{is_later, not_dead}
 use Rattle.txc_node.proofs.bucket.Bucket.clean.Goals as goal
 

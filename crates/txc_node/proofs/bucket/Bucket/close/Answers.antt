@@ -2,7 +2,7 @@ use Rattle.std.proofs.Common.{◌≡◌, List, [], true, false, refl, ◌∙◌,
 use Rattle.std.specs.List.{AllByRecursion}
 use Rattle.std.proofs.lemmas.Bool.{false≢true}
 use Rattle.txc_node.specs.declared.place.Place.{Place}
-use Rattle.txc_node.specs.Indexed.{has_place, is_live, IsSpared}
+use Rattle.txc_node.specs.IndexedEntries.{has_place, is_live, IsSpared}
 use Rattle.txc_node.proofs.Buckets.{is_later, kept_behind, not_dead}
 use Rattle.txc_node.proofs.Closings.{all_stay}
 use Rattle.txc_node.proofs.Invalidated.{was_live}

@@ -1,7 +1,7 @@
 use Rattle.std.proofs.Common.{◌≡◌, List, true, ◌∙◌, sym, subst}
 use Rattle.txc_node.specs.declared.place.Place.{Place}
 use Rattle.txc_node.specs.Places.{equal_places}
-use Rattle.txc_node.specs.Indexed.{has_place}
+use Rattle.txc_node.specs.IndexedEntries.{has_place}
 use Rattle.txc_node.proofs.Buckets.{is_later, not_first}
 use Rattle.txc_node.proofs.bucket.Bucket.remove.Goals as goal
 

@@ -2,7 +2,7 @@ use Rattle.std.proofs.Common.{get_or, subst, arith}
 use Rattle.std.proofs.lemmas.List.{get_or_read}
 use borrow.Author.Count.{below_more}
 use Rattle.txc_node.specs.declared.place.Place.{Place}
-use Rattle.txc_node.specs.Indexed.{IsSpared}
+use Rattle.txc_node.specs.IndexedEntries.{IsSpared}
 use Rattle.txc_node.proofs.Closings.{closes_more, all_from_places}
 use Rattle.txc_node.proofs.closing.Closing.at_each.Goals as goal
 

@@ -1,6 +1,6 @@
 use Rattle.std.proofs.Common.{ℕ, ◌<◌, get_or}
 use Rattle.txc_node.specs.declared.place.Place.{Place}
-use Rattle.txc_node.specs.Indexed.{Closes, IsSpared}
+use Rattle.txc_node.specs.IndexedEntries.{Closes, IsSpared}
 use Rattle.txc_node.proofs.closing.Closing.at_each.Given as goal
 
 abbrev pub invariant-loop-i : goal.invariant-loop-i

@@ -1,6 +1,6 @@
 use Rattle.std.proofs.Common.{arith}
 use borrow.Author.Count.{below_more}
-use Rattle.txc_node.specs.Indexed.{AreSparedAt}
+use Rattle.txc_node.specs.IndexedEntries.{AreSparedAt}
 use Rattle.txc_node.proofs.Closings.{closes_more, all_stay, table_spared}
 use Rattle.txc_node.proofs.closing.Closing.in_table.Goals as goal
 

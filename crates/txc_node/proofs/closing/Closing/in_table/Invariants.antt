@@ -1,5 +1,5 @@
 use Rattle.std.proofs.Common.{ℕ, ◌<◌}
-use Rattle.txc_node.specs.Indexed.{AreSparedAt, Closes}
+use Rattle.txc_node.specs.IndexedEntries.{AreSparedAt, Closes}
 use Rattle.txc_node.proofs.closing.Closing.in_table.Given as goal
 
 abbrev pub invariant-loop-i : goal.invariant-loop-i

@@ -1,7 +1,7 @@
 use Rattle.std.proofs.Common.{◌≡◌, Some, List, sym, subst}
 use Rattle.std.specs.Prelude.{slice_get}
 use Rattle.txc_node.specs.declared.entry.Entry.{Entry}
-use Rattle.txc_node.specs.Indexed.{HeldEntries, IndexesTags, entries_under, reaches_under}
+use Rattle.txc_node.specs.IndexedEntries.{HeldEntries, IndexesTags, entries_under, reaches_under}
 use Rattle.txc_node.proofs.Fronts.{reach_of}
 use Rattle.txc_node.proofs.Listed.{brought_listed}
 use Rattle.txc_node.proofs.indexed.IndexedEntries.bring_first.Goals as goal

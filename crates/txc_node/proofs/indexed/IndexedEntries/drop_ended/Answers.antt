@@ -2,7 +2,7 @@ use Rattle.std.proofs.Common.{not, List, length, ap, ◌∙◌, arith}
 use Rattle.std.specs.List.{filter}
 use Rattle.txc_node.specs.declared.entry.Entry.{Entry}
 use Rattle.txc_node.specs.Cache.{has_ended}
-use Rattle.txc_node.specs.Indexed.{HeldEntries}
+use Rattle.txc_node.specs.IndexedEntries.{HeldEntries}
 use Rattle.txc_node.proofs.Sweepings.{kept_count}
 use Rattle.txc_node.proofs.indexed.IndexedEntries.drop_ended.Goals as goal
 

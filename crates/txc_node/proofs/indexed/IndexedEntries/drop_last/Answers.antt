@@ -1,6 +1,6 @@
 use Rattle.std.proofs.Common.{◌-◌, List, length, sym, subst}
 use Rattle.txc_node.specs.declared.entry.Entry.{Entry}
-use Rattle.txc_node.specs.Indexed.{IndexesTags}
+use Rattle.txc_node.specs.IndexedEntries.{IndexesTags}
 use Rattle.txc_node.proofs.Listed.{evicted_listed}
 use Rattle.txc_node.proofs.indexed.IndexedEntries.drop_last.Goals as goal
 

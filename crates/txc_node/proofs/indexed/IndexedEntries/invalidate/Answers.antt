@@ -1,7 +1,7 @@
 use Rattle.std.proofs.Common.{map, ap, ◌∙◌}
 use Rattle.std.specs.List.{count_by}
 use Rattle.txc_node.specs.Cache.{entry_after, is_invalidated}
-use Rattle.txc_node.specs.Indexed.{HeldEntries}
+use Rattle.txc_node.specs.IndexedEntries.{HeldEntries}
 use Rattle.txc_node.proofs.Invalidated.{none_left, all_closed, indexed_after}
 use Rattle.txc_node.proofs.indexed.IndexedEntries.invalidate.Goals as goal
 

@@ -2,7 +2,7 @@ use Rattle.std.proofs.Common.{List, ◌∷◌, ap, ◌∙◌}
 use Rattle.std.specs.Prelude.{slice_get}
 use Rattle.txc_node.specs.declared.entry.Entry.{Entry}
 use Rattle.txc_node.specs.Entries.{others}
-use Rattle.txc_node.specs.Indexed.{HeldEntries, entry_of}
+use Rattle.txc_node.specs.IndexedEntries.{HeldEntries, entry_of}
 use Rattle.txc_node.proofs.Puts.{first_is}
 use Rattle.txc_node.proofs.indexed.IndexedEntries.put.Goals as goal
 use Rattle.txc_node.proofs.indexed.IndexedEntries.put.Goals.{in-Ok, in-Err}

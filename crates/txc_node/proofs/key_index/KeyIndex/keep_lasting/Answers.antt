@@ -1,5 +1,5 @@
 use Rattle.std.proofs.Common.{◌≡◌, ◌-◌, ℕ, drop, sym, subst, ◌∙◌, arith}
-use Rattle.txc_node.specs.Sweeping.{AreAllLasting}
+use Rattle.txc_node.specs.Sweep.{AreAllLasting}
 use Rattle.txc_node.proofs.Lasting.{listed_last}
 use Rattle.txc_node.proofs.key_index.KeyIndex.keep_lasting.Goals as goal
 

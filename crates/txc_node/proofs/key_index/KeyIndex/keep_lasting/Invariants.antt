@@ -1,7 +1,7 @@
 use Rattle.std.proofs.Common.{◌≡◌, ◌-◌, drop}
 use Rattle.txc_tags.specs.Keys.{Call}
-use Rattle.txc_node.specs.Indexed.{listed}
-use Rattle.txc_node.specs.Sweeping.{lasting, AreAllLasting}
+use Rattle.txc_node.specs.IndexedEntries.{listed}
+use Rattle.txc_node.specs.Sweep.{lasting, AreAllLasting}
 use Rattle.txc_node.proofs.key_index.KeyIndex.keep_lasting.Given as goal
 
 abbrev pub invariant-loop-n : goal.invariant-loop-n

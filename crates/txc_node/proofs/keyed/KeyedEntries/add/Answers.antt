@@ -7,7 +7,7 @@ use Rattle.txc_node.specs.declared.entry.Entry.{Entry}
 use Rattle.txc_node.specs.declared.place.Place.{Place}
 use Rattle.txc_node.specs.declared.stored.Stored.{Stored}
 use Rattle.txc_node.specs.Entries.{same_place}
-use Rattle.txc_node.specs.Indexed.{HeldEntries, entry_of, entries_of, listed, Relists, with_first}
+use Rattle.txc_node.specs.IndexedEntries.{HeldEntries, entry_of, entries_of, listed, Relists, with_first}
 use Rattle.txc_node.proofs.KeyLists.{relisted_here}
 use Rattle.txc_node.proofs.Puts.{absent_entries, absent_put, evicted_is, pushed_out, put_tied, relists_over, same_keys, take_past, within_pairs}
 use Rattle.txc_node.proofs.keyed.KeyedEntries.add.Goals as goal

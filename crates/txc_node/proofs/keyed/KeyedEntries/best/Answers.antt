@@ -2,7 +2,7 @@ use Rattle.std.proofs.Common.{List, ap, sym, subst, ◌∙◌, Option}
 use Rattle.std.specs.List.{find}
 use Rattle.txc_node.specs.declared.entry.Entry.{Entry}
 use Rattle.txc_node.specs.Entries.{is_best}
-use Rattle.txc_node.specs.Indexed.{entries_of, entries_under, IsFound}
+use Rattle.txc_node.specs.IndexedEntries.{entries_of, entries_under, IsFound}
 use Rattle.txc_node.proofs.KeyLists.{find_under, listed_are, none_under}
 use Rattle.txc_node.proofs.keyed.KeyedEntries.best.Goals as goal
 

@@ -7,7 +7,7 @@ use Rattle.txc_node.specs.declared.place.Place.{Place}
 use Rattle.txc_node.specs.declared.stored.Stored.{Stored}
 use Rattle.txc_node.specs.Places.{place_at, equal_places}
 use Rattle.txc_node.specs.Entries.{others}
-use Rattle.txc_node.specs.Indexed.{HeldEntries, entries_of, entries_under, reaches_under}
+use Rattle.txc_node.specs.IndexedEntries.{HeldEntries, entries_of, entries_under, reaches_under}
 use Rattle.txc_node.proofs.Fronts.{brought_entries, brought_tied}
 use Rattle.txc_node.proofs.keyed.KeyedEntries.bring_first.Goals as goal
 

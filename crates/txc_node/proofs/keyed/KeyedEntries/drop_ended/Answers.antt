@@ -1,5 +1,5 @@
 use Rattle.std.proofs.Common.{sym, subst}
-use Rattle.txc_node.specs.Indexed.{HeldEntries, IndexesTags, entries_of}
+use Rattle.txc_node.specs.IndexedEntries.{HeldEntries, IndexesTags, entries_of}
 use Rattle.txc_node.proofs.Sweepings.{all_left, listed_have, swept_tied}
 use Rattle.txc_node.proofs.keyed.KeyedEntries.drop_ended.Goals as goal
 

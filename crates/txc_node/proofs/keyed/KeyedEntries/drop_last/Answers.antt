@@ -4,7 +4,7 @@ use Rattle.lru.specs.LruCache.{LruCache}
 use Rattle.txc_node.specs.declared.entry.Entry.{Entry}
 use Rattle.txc_node.specs.declared.place.Place.{Place}
 use Rattle.txc_node.specs.declared.stored.Stored.{Stored}
-use Rattle.txc_node.specs.Indexed.{AreTied, HeldEntries, entries_of}
+use Rattle.txc_node.specs.IndexedEntries.{AreTied, HeldEntries, entries_of}
 use Rattle.txc_node.proofs.Puts.{last_entry_is, last_left, last_tied, none_tied}
 use Rattle.txc_node.proofs.keyed.KeyedEntries.drop_last.Goals as goal
 

@@ -3,7 +3,7 @@ use Rattle.std.specs.Option.{option_map}
 use Rattle.std.specs.List.{find}
 use Rattle.txc_node.specs.declared.entry.Entry.{Entry}
 use Rattle.txc_node.specs.Places.{place_of, equal_places}
-use Rattle.txc_node.specs.Indexed.{HeldEntries, stored_of}
+use Rattle.txc_node.specs.IndexedEntries.{HeldEntries, stored_of}
 use Rattle.txc_node.proofs.Pairs.{stored_at}
 use Rattle.txc_node.proofs.keyed.KeyedEntries.get.Goals as goal
 

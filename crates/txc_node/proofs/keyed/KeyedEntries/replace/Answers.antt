@@ -6,7 +6,7 @@ use Rattle.lru.specs.LruCache.{LruCache}
 use Rattle.txc_node.specs.declared.place.Place.{Place}
 use Rattle.txc_node.specs.declared.stored.Stored.{Stored}
 use Rattle.txc_node.specs.Places.{equal_places}
-use Rattle.txc_node.specs.Indexed.{HeldEntries, StandsUnder, entry_of, entries_of}
+use Rattle.txc_node.specs.IndexedEntries.{HeldEntries, StandsUnder, entry_of, entries_of}
 use Rattle.txc_node.proofs.Puts.{there_before, there_put, within_listed, replaced_entries, replaced_tied}
 use Rattle.txc_node.proofs.keyed.KeyedEntries.replace.Goals as goal
 

@@ -2,7 +2,7 @@ use Rattle.std.proofs.Common.{List, ap, sym, subst, ◌∙◌, Option}
 use Rattle.std.specs.List.{find}
 use Rattle.txc_node.specs.declared.entry.Entry.{Entry}
 use Rattle.txc_node.specs.Entries.{same_place}
-use Rattle.txc_node.specs.Indexed.{entries_of, entries_under, IsFound}
+use Rattle.txc_node.specs.IndexedEntries.{entries_of, entries_under, IsFound}
 use Rattle.txc_node.proofs.KeyLists.{find_place_under, listed_are, none_under}
 use Rattle.txc_node.proofs.keyed.KeyedEntries.standing.Goals as goal
 

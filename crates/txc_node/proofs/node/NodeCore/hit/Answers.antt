@@ -4,7 +4,7 @@ use Rattle.std.specs.Option.{option_map}
 use Rattle.txc_node.specs.declared.entry.Entry.{Entry}
 use Rattle.txc_node.specs.declared.place.Place.{Place}
 use Rattle.txc_node.specs.Places.{place_of, place_at, equal_places}
-use Rattle.txc_node.specs.Indexed.{IsSearchOf, stored_of, shown_as}
+use Rattle.txc_node.specs.IndexedEntries.{IsSearchOf, stored_of, shown_as}
 use Rattle.txc_node.specs.Cache.{Cache, lookup_answer, shown_of}
 use Rattle.txc_node.proofs.Fronts.{found_again}
 use Rattle.txc_node.proofs.node.NodeCore.hit.Goals as goal

@@ -1,7 +1,7 @@
 use Rattle.std.proofs.Common.{◌≡◌, ◌∷◌, sym, subst}
 use Rattle.txc_node.specs.contracts.node.NodeCore.{the_view}
 use Rattle.txc_node.specs.Cache.{Cache, IsBounded}
-use Rattle.txc_node.specs.Indexed.{IsSearchOf}
+use Rattle.txc_node.specs.IndexedEntries.{IsSearchOf}
 use Rattle.txc_node.specs.Entries.{others}
 use Rattle.txc_node.proofs.LawLemmas.{lookup_bounded}
 use Rattle.txc_node.proofs.Moves.{after_found}

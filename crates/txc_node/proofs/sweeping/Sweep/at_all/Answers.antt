@@ -1,7 +1,7 @@
 use Rattle.std.proofs.Common.{◌∙◌, arith}
 use borrow.Author.Count.{below_more}
-use Rattle.txc_node.specs.Indexed.{entries_of, listed}
-use Rattle.txc_node.specs.Sweeping.{AreGoneAt}
+use Rattle.txc_node.specs.IndexedEntries.{entries_of, listed}
+use Rattle.txc_node.specs.Sweep.{AreGoneAt}
 use Rattle.txc_node.proofs.Sweepings.{all_gone, all_have, gone_by_key, shed_more}
 use Rattle.txc_node.proofs.sweeping.Sweep.at_all.Goals as goal
 

@@ -1,6 +1,6 @@
 use Rattle.std.proofs.Common.{◌≡◌, ℕ, ◌<◌}
-use Rattle.txc_node.specs.Indexed.{entries_of}
-use Rattle.txc_node.specs.Sweeping.{AreStored, AreGoneAt, Sheds}
+use Rattle.txc_node.specs.IndexedEntries.{entries_of}
+use Rattle.txc_node.specs.Sweep.{AreStored, AreGoneAt, Sheds}
 use Rattle.txc_node.proofs.sweeping.Sweep.at_all.Given as goal
 
 abbrev pub invariant-loop-i : goal.invariant-loop-i

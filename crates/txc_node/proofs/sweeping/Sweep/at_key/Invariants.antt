@@ -1,7 +1,7 @@
 use Rattle.std.proofs.Common.{◌≡◌, ℕ, ◌<◌, get_or}
 use Rattle.txc_stamp.specs.Interval.{Interval}
-use Rattle.txc_node.specs.Indexed.{entries_of}
-use Rattle.txc_node.specs.Sweeping.{AreStored, IsGone, Sheds}
+use Rattle.txc_node.specs.IndexedEntries.{entries_of}
+use Rattle.txc_node.specs.Sweep.{AreStored, IsGone, Sheds}
 use Rattle.txc_node.proofs.sweeping.Sweep.at_key.Given as goal
 
 abbrev pub invariant-loop-i : goal.invariant-loop-i

@@ -2,8 +2,8 @@ use Rattle.std.proofs.Common.{◌≡◌, true, List, ap, sym, subst, ◌∙◌}
 use Rattle.txc_node.specs.declared.entry.Entry.{Entry}
 use Rattle.txc_node.specs.declared.place.Place.{Place}
 use Rattle.txc_node.specs.Places.{place_at}
-use Rattle.txc_node.specs.Indexed.{entries_of, entry_at}
-use Rattle.txc_node.specs.Sweeping.{Sheds, elsewhere, ends_by}
+use Rattle.txc_node.specs.IndexedEntries.{entries_of, entry_at}
+use Rattle.txc_node.specs.Sweep.{Sheds, elsewhere, ends_by}
 use Rattle.txc_node.proofs.Sweepings.{none_elsewhere, shed_at}
 use Rattle.txc_node.proofs.sweeping.Sweep.at_reach.Goals as goal
 

@@ -2,7 +2,7 @@ use Rattle.std.proofs.Common.{◌∙◌, List, length, get_or, ap, subst, arith}
 use Rattle.std.proofs.lemmas.List.{get_or_read}
 use borrow.Author.Count.{below_more}
 use Rattle.txc_tags.specs.declared.tag.Tag.{Tag}
-use Rattle.txc_node.specs.Indexed.{AreSparedBy}
+use Rattle.txc_node.specs.IndexedEntries.{AreSparedBy}
 use Rattle.txc_node.proofs.Closings.{closes_more, all_from_places}
 use Rattle.txc_node.proofs.Invalidated.{spared_still, was_live}
 use Rattle.txc_node.proofs.tag_index.TagIndex.close.Goals as goal

@@ -1,6 +1,6 @@
 use Rattle.std.proofs.Common.{◌≡◌, ℕ, ◌<◌, true, get_or}
 use Rattle.txc_tags.specs.declared.tag.Tag.{Tag}
-use Rattle.txc_node.specs.Indexed.{AreSparedBy, Closes, KeepsListed, is_live}
+use Rattle.txc_node.specs.IndexedEntries.{AreSparedBy, Closes, KeepsListed, is_live}
 use Rattle.txc_node.proofs.tag_index.TagIndex.close.Given as goal
 
 abbrev pub invariant-loop-tag : goal.invariant-loop-tag

@@ -8,7 +8,7 @@ use Rattle.txc_tags.proofs.Offered.{both_true}
 use Rattle.txc_tags.specs.declared.tag.Rows.{Rows}
 use Rattle.txc_tags.specs.Tags.{rows_match}
 use Rattle.txc_node.specs.declared.place.Place.{Place}
-use Rattle.txc_node.specs.Indexed.{lists_rows}
+use Rattle.txc_node.specs.IndexedEntries.{lists_rows}
 use Rattle.txc_node.proofs.tag_index.TagIndex.close_one.Goals as goal
 
 module _ {S : Type 0} (rows : Rows) (q : Place) where

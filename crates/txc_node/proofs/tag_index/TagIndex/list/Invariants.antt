@@ -1,6 +1,6 @@
 use Rattle.std.proofs.Common.{◌≡◌, ◌<◌, ℕ, true, get_or}
 use Rattle.txc_tags.specs.declared.tag.Tag.{Tag}
-use Rattle.txc_node.specs.Indexed.{lists, KeepsListed}
+use Rattle.txc_node.specs.IndexedEntries.{lists, KeepsListed}
 use Rattle.txc_node.proofs.tag_index.TagIndex.list.Given as goal
 
 abbrev pub invariant-loop-tag : goal.invariant-loop-tag

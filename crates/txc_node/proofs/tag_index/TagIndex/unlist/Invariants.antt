@@ -1,6 +1,6 @@
 use Rattle.std.proofs.Common.{◌≡◌, false}
 use Rattle.txc_node.specs.Places.{equal_places}
-use Rattle.txc_node.specs.Indexed.{KeepsListed}
+use Rattle.txc_node.specs.IndexedEntries.{KeepsListed}
 use Rattle.txc_node.proofs.tag_index.TagIndex.unlist.Given as goal
 
 abbrev pub invariant-loop-tag : goal.invariant-loop-tag

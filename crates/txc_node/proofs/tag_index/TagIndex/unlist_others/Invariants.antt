@@ -1,7 +1,7 @@
 use Rattle.std.proofs.Common.{◌≡◌, true, false}
 use Rattle.txc_tags.specs.Tags.{has_tag}
 use Rattle.txc_node.specs.Places.{equal_places}
-use Rattle.txc_node.specs.Indexed.{KeepsListed}
+use Rattle.txc_node.specs.IndexedEntries.{KeepsListed}
 use Rattle.txc_node.proofs.tag_index.TagIndex.unlist_others.Given as goal
 
 abbrev pub invariant-loop-tag : goal.invariant-loop-tag

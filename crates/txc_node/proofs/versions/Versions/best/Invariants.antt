@@ -3,7 +3,7 @@ use Rattle.std.specs.Prelude.{IfSome}
 use Rattle.txc_tags.specs.Keys.{Call}
 use Rattle.txc_node.specs.declared.entry.Entry.{Entry}
 use Rattle.txc_node.specs.Best.{BestSoFar}
-use Rattle.txc_node.specs.Indexed.{AreOf}
+use Rattle.txc_node.specs.IndexedEntries.{AreOf}
 use Rattle.txc_node.proofs.versions.Versions.best.Given as goal
 
 abbrev pub invariant-loop-i : goal.invariant-loop-i

@@ -1,5 +1,5 @@
 use Rattle.std.proofs.Common.{◌≡◌, true, false}
-use Rattle.txc_node.specs.Indexed.{meets, lasts_longer}
+use Rattle.txc_node.specs.IndexedEntries.{meets, lasts_longer}
 use Rattle.txc_node.proofs.Best.{best_skips, best_keeps, best_begins, best_takes}
 use Rattle.txc_node.proofs.KeyReaches.{range_at, lasts_at}
 use Rattle.txc_node.proofs.versions.Versions.better_of.Goals as goal

@@ -4,7 +4,7 @@ use Rattle.lru.specs.LruCache.{LruCache}
 use Rattle.txc_node.specs.declared.place.Place.{Place}
 use Rattle.txc_node.specs.declared.stored.Stored.{Stored}
 use Rattle.txc_node.specs.Places.{equal_places}
-use Rattle.txc_node.specs.Weighed.{IsWeighed}
+use Rattle.txc_node.specs.WeighedEntries.{IsWeighed}
 use Rattle.txc_node.proofs.Weights.{stored_bytes, removed_weight, removed_short}
 use Rattle.txc_node.proofs.weighed.WeighedEntries.pop.Goals as goal
 

@@ -1,5 +1,5 @@
 use Rattle.std.proofs.Common.{◌-◌, length, ap, arith}
-use Rattle.txc_node.specs.Weighed.{value_len_in}
+use Rattle.txc_node.specs.WeighedEntries.{value_len_in}
 use Rattle.txc_node.proofs.Weights.{taken_weight, taken_short}
 use Rattle.txc_node.proofs.weighed.WeighedEntries.pop_last.Goals as goal
 

@@ -3,7 +3,7 @@ use Rattle.lru.specs.LruCache.{LruCache}
 use Rattle.txc_node.specs.declared.place.Place.{Place}
 use Rattle.txc_node.specs.declared.stored.Stored.{Stored}
 use Rattle.txc_node.specs.Places.{equal_places}
-use Rattle.txc_node.specs.Weighed.{IsWeighed}
+use Rattle.txc_node.specs.WeighedEntries.{IsWeighed}
 use Rattle.txc_node.proofs.Weights.{promoted_weight, promoted_short}
 use Rattle.txc_node.proofs.weighed.WeighedEntries.promote.Goals as goal
 

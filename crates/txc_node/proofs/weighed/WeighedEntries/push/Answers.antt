@@ -1,6 +1,6 @@
 use Rattle.std.proofs.Common.{◌≤◌, ℕ, List, length, ap, arith}
 use Rattle.txc_node.specs.declared.value.TheConstants.{MOST_VALUE_LEN}
-use Rattle.txc_node.specs.Weighed.{value_len_in}
+use Rattle.txc_node.specs.WeighedEntries.{value_len_in}
 use Rattle.txc_node.proofs.Weights.{put_weight, put_short, weight_fits}
 use Rattle.txc_node.proofs.weighed.WeighedEntries.push.Goals as goal
 

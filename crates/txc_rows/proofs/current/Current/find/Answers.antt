@@ -7,8 +7,8 @@ use Rattle.txc_rows.specs.declared.placed.Placed.{Placed}
 use Rattle.txc_rows.specs.declared.query.Query.TheVariants.{ById, ByGroup, All, Range}
 use Rattle.txc_rows.specs.Versions.{suits}
 use Rattle.txc_rows.specs.Placed.{version_of, left_from}
-use Rattle.txc_rows.specs.Kept.{IsFinding}
-use Rattle.txc_rows.specs.Slotted.{row_between, in_group_of}
+use Rattle.txc_rows.specs.LatestTable.{IsFinding}
+use Rattle.txc_rows.specs.VersionSlots.{row_between, in_group_of}
 use Rattle.txc_rows.proofs.Slotting.{slots_finding, slots_many, agree_id, agree_group, agree_all, agree_range}
 use Rattle.txc_rows.proofs.current.Current.find.Goals as goal
 

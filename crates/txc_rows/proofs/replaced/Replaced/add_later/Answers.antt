@@ -2,7 +2,7 @@ use Rattle.std.proofs.Common.{OnOk, sym, subst}
 use Rattle.std.proofs.lemmas.Result.{on_ok_weaker}
 use Rattle.std.specs.Map.Iter.{deref}
 use Rattle.txc_rows.specs.declared.query.Query.{Query}
-use Rattle.txc_rows.specs.Kept.{AddsAround}
+use Rattle.txc_rows.specs.LatestTable.{AddsAround}
 use Rattle.txc_rows.proofs.FindLemmas.{asked}
 use Rattle.txc_rows.proofs.NearLemmas.{adds_all, first_adds}
 use Rattle.txc_rows.proofs.replaced.Replaced.add_later.Goals as goal

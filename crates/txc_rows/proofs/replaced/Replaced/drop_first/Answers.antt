@@ -1,5 +1,5 @@
 use Rattle.std.proofs.Common.{◌≡◌, ◌≤◌, ◌∷◌, length, subst, arith}
-use Rattle.txc_rows.specs.Indexed.{version_id, version_group, spot_of, AreIndexed}
+use Rattle.txc_rows.specs.ReplacedIndex.{version_id, version_group, spot_of, AreIndexed}
 use Rattle.txc_rows.proofs.IndexLemmas.{Drops, first_dropped}
 use Rattle.txc_rows.proofs.replaced.Replaced.drop_first.Goals as goal
 

@@ -1,5 +1,5 @@
 use Rattle.std.proofs.Common.{◌≡◌, ◌≤◌, ◌+◌, ◌++◌, ◌∷◌, [], length, length-drop, length-append, ap, subst, ◌∙◌, arith, rules}
-use Rattle.txc_rows.specs.Indexed.{version_id, version_group, spot_of, AreIndexed}
+use Rattle.txc_rows.specs.ReplacedIndex.{version_id, version_group, spot_of, AreIndexed}
 use Rattle.txc_rows.proofs.IndexLemmas.{Drops, last_dropped}
 use Rattle.txc_rows.proofs.replaced.Replaced.drop_last.Goals as goal
 

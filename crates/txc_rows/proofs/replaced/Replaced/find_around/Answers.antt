@@ -1,7 +1,7 @@
 use Rattle.std.proofs.Common.{◌≡◌, ◌+◌, ℕ, max, subst, arith, rules}
 use Rattle.std.proofs.lemmas.Result.{on_ok_weaker}
-use Rattle.txc_rows.specs.Indexed.{dead_between}
-use Rattle.txc_rows.specs.Kept.{AddsAround}
+use Rattle.txc_rows.specs.ReplacedIndex.{dead_between}
+use Rattle.txc_rows.specs.LatestTable.{AddsAround}
 use Rattle.txc_rows.proofs.FindLemmas.{asked}
 use Rattle.txc_rows.proofs.DeadLemmas.{both_parts}
 use Rattle.txc_rows.proofs.NearLemmas.{adds_both}

@@ -3,7 +3,7 @@ use Rattle.std.proofs.lemmas.List.{drop-append-le}
 use Rattle.std.specs.List.Sorted.{IsPermutation}
 use Rattle.std.proofs.lemmas.List.Sorted.{IsPermutation-trans}
 use Rattle.txc_rows.specs.declared.replaced.Spot.{Spot}
-use Rattle.txc_rows.specs.Indexed.{version_id, version_group, spot_of}
+use Rattle.txc_rows.specs.ReplacedIndex.{version_id, version_group, spot_of}
 use Rattle.txc_rows.proofs.IndexLemmas.{all_numbered, one_added}
 use Rattle.txc_rows.proofs.replaced.Replaced.push.Goals as goal
 

@@ -1,6 +1,6 @@
 use Rattle.std.proofs.Common.{sym, ap, subst, ◌∙◌}
 use Rattle.txc_rows.specs.Placed.{left_from, AreAmong}
-use Rattle.txc_rows.specs.Kept.{versions_of, IsStore}
+use Rattle.txc_rows.specs.LatestTable.{versions_of, IsStore}
 use Rattle.txc_rows.proofs.store.Store.matching_at.Goals as goal
 
 pub invariant_of-self : goal.invariant_of-self

@@ -1,9 +1,9 @@
 use Rattle.std.proofs.Common.{◌≡◌, ◌+◌, ◌++◌, max, ap, sym, subst, ◌∙◌, arith, rules}
 use Rattle.std.proofs.lemmas.Result.{err_from_is_err_and}
 use Rattle.txc_rows.specs.Versions.{purged}
-use Rattle.txc_rows.specs.Holdable.{IsStorable}
+use Rattle.txc_rows.specs.StorableVersions.{IsStorable}
 use Rattle.txc_rows.specs.Placed.{left_from, AreSwept}
-use Rattle.txc_rows.specs.Kept.{versions_of, IsStore}
+use Rattle.txc_rows.specs.LatestTable.{versions_of, IsStore}
 use Rattle.txc_rows.proofs.PutLemmas.{all_front}
 use Rattle.txc_rows.proofs.StoreLemmas.{purged_store}
 use Rattle.txc_rows.proofs.store.Store.purge.Goals as goal

@@ -1,6 +1,6 @@
 use Rattle.std.proofs.Common.{◌∙◌, ap, map, sym, subst}
 use Rattle.txc_rows.specs.Versions.{counted_from}
-use Rattle.txc_rows.specs.Keeping.{KeepsBegun}
+use Rattle.txc_rows.specs.KeptStates.{KeepsBegun}
 use Rattle.txc_rows.proofs.CountedLemmas.{keeps_begun, begun_counted}
 use Rattle.txc_rows.proofs.version_rows.VersionRows.begin_at.Goals as goal
 

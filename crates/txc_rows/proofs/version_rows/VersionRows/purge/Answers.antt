@@ -1,6 +1,6 @@
 use Rattle.std.proofs.Common.{◌∙◌, ap, map, sym, subst}
 use Rattle.txc_rows.specs.Versions.{counted_from}
-use Rattle.txc_rows.specs.Keeping.{KeepsPurged}
+use Rattle.txc_rows.specs.KeptStates.{KeepsPurged}
 use Rattle.txc_rows.proofs.KeepingLemmas.{keeps_purged}
 use Rattle.txc_rows.proofs.CountedLemmas.{dropped_counted}
 use Rattle.txc_rows.proofs.version_rows.VersionRows.purge.Goals as goal

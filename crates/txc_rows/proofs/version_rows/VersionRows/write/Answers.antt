@@ -1,8 +1,8 @@
 use Rattle.std.proofs.Common.{◌∙◌, ap, map, sym, subst}
 use Rattle.std.specs.List.{AllByRecursion}
 use Rattle.txc_rows.specs.Versions.{counted_from}
-use Rattle.txc_rows.specs.Holdable.{IsStorable}
-use Rattle.txc_rows.specs.Keeping.{KeepsWritten}
+use Rattle.txc_rows.specs.StorableVersions.{IsStorable}
+use Rattle.txc_rows.specs.KeptStates.{KeepsWritten}
 use Rattle.txc_rows.proofs.KeepingLemmas.{keeps_written}
 use Rattle.txc_rows.proofs.CountedLemmas.{each_counted, written_counted}
 use Rattle.txc_rows.proofs.version_rows.VersionRows.write.Goals as goal

@@ -3,7 +3,7 @@ use mathlib.Core.List.{IsPrefix}
 use Rattle.txc_stream.proofs.Offered.{prefix_trans}
 use Rattle.txc_shared.specs.Nodes.{NodeValue, seeing, HasAdvanced}
 use Rattle.txc_shared.specs.Passes.{PassValue}
-use Rattle.txc_shared.specs.Locked.{IsAdmitted}
+use Rattle.txc_shared.specs.LockedNode.{IsAdmitted}
 use Rattle.txc_shared.proofs.Locking.{has_taken, posted_so}
 use Rattle.txc_shared.proofs.held.Held.advance.Goals as goal
 

@@ -4,7 +4,7 @@ use Rattle.txc_node.specs.declared.reply.Reply.TheVariants as replies
 use Rattle.txc_node.specs.Cache.{outcome}
 use Rattle.txc_shared.specs.Nodes.{NodeValue, after_call, seeing}
 use Rattle.txc_shared.specs.Passes.{PassValue}
-use Rattle.txc_shared.specs.Locked.{IsAdmitted}
+use Rattle.txc_shared.specs.LockedNode.{IsAdmitted}
 use Rattle.txc_shared.proofs.Locking.{ahead_seeing, then_own}
 use Rattle.txc_shared.proofs.held.Held.insert.Goals as goal
 

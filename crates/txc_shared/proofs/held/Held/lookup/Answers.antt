@@ -4,7 +4,7 @@ use Rattle.txc_node.specs.declared.op.Op.TheVariants.{Lookup}
 use Rattle.txc_node.specs.Steps.{found_reply}
 use Rattle.txc_shared.specs.Nodes.{NodeValue, after_call}
 use Rattle.txc_shared.specs.Passes.{PassValue}
-use Rattle.txc_shared.specs.Locked.{IsAdmitted}
+use Rattle.txc_shared.specs.LockedNode.{IsAdmitted}
 use Rattle.txc_shared.proofs.Locking.{then_own}
 use Rattle.txc_shared.proofs.held.Held.lookup.Goals as goal
 

@@ -3,7 +3,7 @@ use Rattle.txc_node.specs.Counts.{AreCountsOf}
 use Rattle.txc_node.specs.declared.record.Record.{Record}
 use Rattle.txc_shared.specs.Nodes.{NodeValue}
 use Rattle.txc_shared.specs.Passes.{GrowsByOthers}
-use Rattle.txc_shared.specs.Locked.{IsAdmitted}
+use Rattle.txc_shared.specs.LockedNode.{IsAdmitted}
 use Rattle.txc_shared.proofs.Locking.{others_did}
 use Rattle.txc_shared.proofs.held.Held.node_counts.Goals as goal
 

@@ -1,7 +1,7 @@
 use Rattle.std.proofs.Common.{◌≡◌, refl, ap, sym, subst}
-use Rattle.txc_db.specs.Seen.{FrontValue}
+use Rattle.txc_db.specs.FrontsAndFeeds.{FrontValue}
 use Rattle.txc_shared.specs.Nodes.{NodeFrontValue, NodeValue}
-use Rattle.txc_shared.specs.Locked.{IsAhead}
+use Rattle.txc_shared.specs.LockedNode.{IsAhead}
 use Rattle.txc_shared.proofs.Locking.{shown_legal}
 use Rattle.txc_shared.proofs.Passes.{over_as}
 use Rattle.txc_shared.proofs.held.Held.show.Goals as goal

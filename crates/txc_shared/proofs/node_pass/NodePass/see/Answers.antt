@@ -1,6 +1,6 @@
 use Rattle.std.proofs.Common.{◌≡◌, ◌⊎◌, List, refl, ap, sym, subst, ◌∙◌}
 use mathlib.Core.List.{IsPrefix}
-use Rattle.txc_stream.specs.Shown.{Shown}
+use Rattle.txc_stream.specs.FrontValue.{Shown}
 use Rattle.txc_stream.proofs.Offered.{prefix_self}
 use Rattle.txc_node.specs.declared.record.Record.{Record}
 use Rattle.txc_shared.specs.Histories.{records_of}

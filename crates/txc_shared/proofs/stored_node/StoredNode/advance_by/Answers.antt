@@ -5,7 +5,7 @@ use Rattle.txc_db.specs.History.{tags_at}
 use Rattle.txc_node.specs.declared.op.Op.{Op}
 use Rattle.txc_node.specs.declared.op.Op.TheVariants.{Event}
 use Rattle.txc_node.specs.declared.record.Record.{Record}
-use Rattle.txc_node.specs.declared.hit.Shown.{Shown}
+use Rattle.txc_node.specs.declared.hit.HitValue.{HitValue}
 use Rattle.txc_node.specs.declared.reply.Reply.{Reply}
 use Rattle.txc_node.specs.declared.reply.Reply.TheVariants as replies
 use Rattle.txc_node.specs.Cache.{closed_count}
@@ -13,7 +13,7 @@ use Rattle.txc_node.specs.Counts.{AreCountsOf}
 use Rattle.txc_node.specs.Steps.{function_of}
 use Rattle.txc_shared.specs.Histories.{next_record}
 use Rattle.txc_shared.specs.Nodes.{start_of, NodeValue, LogValue, HasTags, after_call, seeing, next_event}
-use Rattle.txc_shared.specs.Locked.{record_in}
+use Rattle.txc_shared.specs.LockedNode.{record_in}
 use Rattle.txc_shared.proofs.Alike.{counts_alike}
 use Rattle.txc_shared.proofs.Nodes.{stepped, broke, may_take, tags_in_longer, called}
 use Rattle.txc_shared.proofs.stored_node.StoredNode.advance_by.Goals as goal
@@ -60,7 +60,7 @@ invariant_of-self-else-not-append g c =
     let here : HasTags seen stamp tags = subst (λ k. HasTags seen k tags) (sym c.after-stamp.ensures) has in
     let held = c.nodes_go_on.ensures.sees g.A.App.next c.self.inside.seen.history seen (start_of c.self.inside.settings c.self.inside.from) rs core c.self.inside.broken c.longer-2.ensures.this c.self.invariant.0 in
     let whole : c.self.inside.broken ≡ false = ap (λ (n : NodeValue). n.broken) c.self.view_is ∙ c.in_ok-check_whole.ensures.only_if in
-    let done : Reply Shown = replies.Closed c.in-Ok.closed in
+    let done : Reply HitValue = replies.Closed c.in-Ok.closed in
     let replied : done ≡ replies.Closed (closed_count core stamp tags) = ap replies.Closed c.in-Ok.ensures.answer in
     let record_is = c.answered-next.ensures.answered (next_record c.args.pass rs (Event stamp tags) (replies.Closed (closed_count core stamp tags))) c.in_ok-prepared.ensures.awaits replied in
     let records = ap (λ (l : LogValue). l.records) (c.if-not-append.ensures.after refl) in

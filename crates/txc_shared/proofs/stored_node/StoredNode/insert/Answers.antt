@@ -1,6 +1,6 @@
 use Rattle.std.proofs.Common.{◌≡◌, ℕ, Option, Some, List, length, refl, ap, sym, subst, ◌∙◌, false, true≢false, arith}
 use Rattle.txc_node.specs.declared.op.Op.TheVariants.{Insert}
-use Rattle.txc_node.specs.declared.hit.Shown.{Shown}
+use Rattle.txc_node.specs.declared.hit.HitValue.{HitValue}
 use Rattle.txc_node.specs.declared.reply.Reply.{Reply}
 use Rattle.txc_node.specs.declared.reply.Reply.TheVariants as replies
 use Rattle.txc_node.specs.declared.record.Record.{Record}
@@ -9,7 +9,7 @@ use Rattle.txc_node.specs.Counts.{AreCountsOf}
 use Rattle.txc_node.specs.Steps.{function_of}
 use Rattle.txc_shared.specs.Histories.{next_record}
 use Rattle.txc_shared.specs.Nodes.{start_of, NodeValue, LogValue, after_call, seeing, insertion_of}
-use Rattle.txc_shared.specs.Locked.{record_in}
+use Rattle.txc_shared.specs.LockedNode.{record_in}
 use Rattle.txc_shared.proofs.Alike.{counts_alike}
 use Rattle.txc_shared.proofs.Nodes.{stepped, broke, may_insert, called}
 use Rattle.txc_shared.proofs.stored_node.StoredNode.insert.Goals as goal
@@ -45,7 +45,7 @@ invariant_of-self-else-not-append g c =
     let held = c.nodes_go_on.ensures.sees g.A.App.next c.self.inside.seen.history seen (start_of c.self.inside.settings c.self.inside.from) rs core c.self.inside.broken c.longer.ensures.this c.self.invariant.0 in
     let right = c.true_entries_stay.ensures g.A.App.next c.args.front.now.history seen e c.longer.ensures.that c.requires.is_true in
     let whole : c.self.inside.broken ≡ false = ap (λ (n : NodeValue). n.broken) c.self.view_is ∙ c.in_ok-check_whole.ensures.only_if in
-    let done : Reply Shown = replies.Inserted c.in_ok-inserted.inserted in
+    let done : Reply HitValue = replies.Inserted c.in_ok-inserted.inserted in
     let replied : done ≡ replies.Inserted (outcome core e) = ap replies.Inserted c.in_ok-inserted.ensures.answer in
     let record_is = c.answered-next.ensures.answered (next_record c.args.pass rs (Insert e) (replies.Inserted (outcome core e))) c.in_ok-prepared.ensures.awaits replied in
     let records = ap (λ (l : LogValue). l.records) (c.if-not-append.ensures.after refl) in

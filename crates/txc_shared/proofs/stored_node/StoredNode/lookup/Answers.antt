@@ -1,6 +1,6 @@
 use Rattle.std.proofs.Common.{◌≡◌, ℕ, Option, Some, List, length, refl, ap, sym, subst, ◌∙◌, false, true≢false, rules, arith}
 use Rattle.std.specs.Option.{option_map}
-use Rattle.txc_node.specs.declared.hit.Shown.{Shown}
+use Rattle.txc_node.specs.declared.hit.HitValue.{HitValue}
 use Rattle.txc_node.specs.declared.record.Record.{Record}
 use Rattle.txc_node.specs.declared.reply.Reply.{Reply}
 use Rattle.txc_node.specs.declared.op.Op.TheVariants.{Lookup}
@@ -9,7 +9,7 @@ use Rattle.txc_node.specs.Counts.{AreCountsOf}
 use Rattle.txc_node.specs.Steps.{found_reply, function_of}
 use Rattle.txc_shared.specs.Histories.{next_record}
 use Rattle.txc_shared.specs.Nodes.{start_of, NodeValue, LogValue, after_call}
-use Rattle.txc_shared.specs.Locked.{record_in, DoCountAlike}
+use Rattle.txc_shared.specs.LockedNode.{record_in, DoCountAlike}
 use Rattle.txc_shared.proofs.Nodes.{stepped, broke, may_look_up, found_true, called}
 use Rattle.txc_shared.proofs.stored_node.StoredNode.lookup.Goals as goal
 
@@ -46,7 +46,7 @@ invariant_of-self-else-not-append g c =
     let step = record_in c.in_ok-next.next in
     let of : ◌≡◌ {A = Option ℕ} (Some c.function.result) (function_of step.op) = ap Some c.function.ensures.answer ∙ sym (ap (λ (r : Record). function_of r.op) record_is) in
     let alike : DoCountAlike c.reply_without_copies-reply.result step.reply =
-    subst (λ (r : Reply Shown). DoCountAlike c.reply_without_copies-reply.result r) (reply ∙ sym (ap (λ (r : Record). r.reply) record_is)) c.reply_without_copies-reply.ensures in (
+    subst (λ (r : Reply HitValue). DoCountAlike c.reply_without_copies-reply.result r) (reply ∙ sym (ap (λ (r : Record). r.reply) record_is)) c.reply_without_copies-reply.ensures in (
       stepped g.A.App.next c.self.inside.seen.history (start_of c.self.inside.settings c.self.inside.from) c.nodes_go_on.ensures.step rs c.append.new.self.records c.self.inside.core c.mark_used.new.self c.self.inside.broken
           c.args.pass op step c.self.invariant.0 whole (may_look_up g.A.App.next c.self.inside.seen.history c.self.inside.core key c.args.lo c.args.hi c.in-Ok.ensures.only_if)
           record_is records next,

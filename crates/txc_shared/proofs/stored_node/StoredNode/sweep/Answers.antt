@@ -4,12 +4,12 @@ use Rattle.txc_node.specs.declared.record.Record.{Record}
 use Rattle.txc_node.specs.Cache.{swept_count}
 use Rattle.txc_node.specs.Counts.{AreCountsOf}
 use Rattle.txc_node.specs.Steps.{function_of}
-use Rattle.txc_node.specs.declared.hit.Shown.{Shown}
+use Rattle.txc_node.specs.declared.hit.HitValue.{HitValue}
 use Rattle.txc_node.specs.declared.reply.Reply.{Reply}
 use Rattle.txc_node.specs.declared.reply.Reply.TheVariants as replies
 use Rattle.txc_shared.specs.Histories.{next_record}
 use Rattle.txc_shared.specs.Nodes.{start_of, NodeValue, LogValue, after_call}
-use Rattle.txc_shared.specs.Locked.{record_in}
+use Rattle.txc_shared.specs.LockedNode.{record_in}
 use Rattle.txc_shared.proofs.Alike.{counts_alike}
 use Rattle.txc_shared.proofs.Nodes.{stepped, broke, may_sweep, called}
 use Rattle.txc_shared.proofs.stored_node.StoredNode.sweep.Goals as goal
@@ -35,7 +35,7 @@ invariant_of-self-else-not-append g c =
     let rs = c.self.inside.log.records in
     let op = Sweep c.args.horizon in
     let whole : c.self.inside.broken ≡ false = ap (λ (n : NodeValue). n.broken) c.self.view_is ∙ c.in_ok-check_whole.ensures.only_if in
-    let done : Reply Shown = replies.Swept c.sweep-dropped.result in
+    let done : Reply HitValue = replies.Swept c.sweep-dropped.result in
     let replied : done ≡ replies.Swept (swept_count c.self.inside.core c.args.horizon) = ap replies.Swept c.sweep-dropped.ensures.answer in
     let record_is = c.answered-next.ensures.answered (next_record c.args.pass rs op (replies.Swept (swept_count c.self.inside.core c.args.horizon))) c.in_ok-prepared.ensures.awaits replied in
     let records = ap (λ (l : LogValue). l.records) (c.if-not-append.ensures.after refl) in

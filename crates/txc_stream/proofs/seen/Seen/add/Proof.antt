@@ -43,7 +43,7 @@ add_spec 𝓤 𝓛 𝓜 𝓡 wired T L =
     let m = z.0.3.0 in let nb₀ : ℕ = m.ref_ptr.0 in let no₀ : ℕ = m.ref_ptr.1 in let ν₀ : ℕ = m.ghost_name in let s = m.now in let κ' : Lft = κs.0 in let q' : Share = qs.0 in
     let b : ℕ = z.0.3.1.0.ref_ptr.0 in let o : ℕ = z.0.3.1.0.ref_ptr.1 in let x = z.0.3.1.0.now in let κ : Lft = κs.1.0 in let q : Share = qs.1.0 in let μ : Lft = κs.1.1.0 in let r : Share = qs.1.1.0 in
     let more : List R.Denot = with_known s.list x.known in let Asked : Type 0 = IsCellAfter s.name (length s.list) x.cell in
-    let Shuts = standing.Shuts 𝓛 R κ' q' nb₀ no₀ ν₀ in let n : (Seen 𝓛 R).Denot = record { marker = s.marker; name = s.name; list = more } in let Told : Type 0 = (s.name ≡ s.name) × (more ≡ more) in
+    let Shuts = standing.Shuts 𝓛 R κ' q' nb₀ no₀ ν₀ in let n : (Seen 𝓛 R).Denot = record { marker = s.marker; name = s.name; list = more } in let GhostObjects : Type 0 = (s.name ≡ s.name) × (more ≡ more) in
     qed 𝓛 (((‵ (flft κ' q') ⊛ ‵ (flft κ q) ⊛ ‵ (flft μ r) ⊛ ‵ ftrue) ⊛ ‵ (owns (types_at En.signature.params κs) z.0.3 z.0.4)) ∷ raw (fact 𝓤 (μ ⊑ T.lives)) ∷ raw (fact 𝓤 Asked) ∷ []) ∵
     move ! (2 ∷ []) $ heard ! Asked (λ asked. keep ! (0 ∷ []) $ split ! $ split3 ! $ move ! (2 ∷ []) $ split ! $ move ! (4 ∷ []) $ fsplit3 ! $ fsplit ! $ keep ! (1 ∷ 2 ∷ 7 ∷ 6 ∷ 4 ∷ []) $
     -- [what was seen; the note; κ; κ'; μ]
@@ -58,5 +58,5 @@ add_spec 𝓤 𝓛 𝓜 𝓡 wired T L =
     -- [what was seen; κ'; κ; μ]
     feq_i ! (List Val) z.0.4.0 (vptr nb₀ no₀ ∷ []) are.0.0 $ fjoin ! $ nothing ! $ nothing ! $ fjoin ! $ move ! (1 ∷ 0 ∷ []) $ fjoin ! $
     move ! (3 ∷ []) $ nothing ! $ move ! (1 ∷ 0 ∷ []) $ join ! $ move ! (3 ∷ 0 ∷ []) $ join ! $ move ! (2 ∷ 0 ∷ []) $ join ! $
-    sets ! (of_opd ! (unit_lit !)) refl (tt, tt) $ feq_i ! (List Val) (vunit ∷ []) (vunit ∷ []) refl $ use0 𝓛 (raw (fact 𝓤 Told)) (fact_i 𝓤 Told (emp 𝓤) (refl, refl)) $
+    sets ! (of_opd ! (unit_lit !)) refl (tt, tt) $ feq_i ! (List Val) (vunit ∷ []) (vunit ∷ []) refl $ use0 𝓛 (raw (fact 𝓤 GhostObjects)) (fact_i 𝓤 GhostObjects (emp 𝓤) (refl, refl)) $
     returns ! (look_at ! 0 refl) $ free_all ! refl $ keep ! (2 ∷ 3 ∷ 1 ∷ 0 ∷ []) $ by ! (leaves 𝓛 En hs c z vunit tt (n, (tt, tt)) (tt, (tt, tt))))))

@@ -44,7 +44,7 @@ tell_spec 𝓤 𝓛 𝓜 𝓡 wired T L =
     let b : ℕ = z.0.3.0.ref_ptr.0 in let o : ℕ = z.0.3.0.ref_ptr.1 in let s = z.0.3.0.now in let κ : Lft = κs.0 in let q : Share = qs.0 in let i : ℕ = z.0.3.1.0 in let μ : Lft = κs.1.1.0 in let r : Share = qs.1.1.0 in
     let κ' : Lft = κs.1.0 in let q' : Share = qs.1.0 in let m = z.0.3.1.1.0 in let nb₀ : ℕ = m.ref_ptr.0 in let no₀ : ℕ = m.ref_ptr.1 in let ν₀ : ℕ = m.ghost_name in let γ : ℕ = m.now.cell in
     let known : Option R.Denot = slice_get s.list i in let Asked : Type 0 = (i < length s.list) × IsCellAt s.name i γ in
-    let Shuts = notes.Shuts 𝓛 R κ' q' nb₀ no₀ ν₀ in let n : (Note 𝓛 R).Denot = record { marker = m.now.marker; cell = γ; known = known } in let Told : Type 0 = (γ ≡ γ) × (known ≡ known) in
+    let Shuts = notes.Shuts 𝓛 R κ' q' nb₀ no₀ ν₀ in let n : (Note 𝓛 R).Denot = record { marker = m.now.marker; cell = γ; known = known } in let GhostObjects : Type 0 = (γ ≡ γ) × (known ≡ known) in
     let Vs : List Val = vptr b o ∷ vint w64 i ∷ vptr nb₀ no₀ ∷ [] in
     qed 𝓛 (((‵ (flft κ q) ⊛ ‵ (flft κ' q') ⊛ ‵ (flft μ r) ⊛ ‵ ftrue) ⊛ ‵ (owns (types_at En.signature.params κs) z.0.3 z.0.4)) ∷ raw (fact 𝓤 (μ ⊑ T.lives)) ∷ raw (fact 𝓤 Asked) ∷ []) ∵
     move ! (2 ∷ []) $ heard ! Asked (λ asked. keep ! (0 ∷ []) $ split ! $ split3 ! $ move ! (2 ∷ []) $ split ! $ move ! (4 ∷ []) $ fsplit3 ! $ move ! (2 ∷ []) $ fsplit ! $ fsplit ! $ keep ! (1 ∷ 3 ∷ 7 ∷ 8 ∷ 5 ∷ []) $
@@ -59,5 +59,5 @@ tell_spec 𝓤 𝓛 𝓜 𝓡 wired T L =
     -- [the note; κ'; κ; μ]
     feq_i ! (List Val) z.0.4.1.1.0 (vptr nb₀ no₀ ∷ []) are.1.1.0.0 $ fjoin ! $ nothing ! $ move ! (1 ∷ 0 ∷ []) $ fjoin ! $ nothing ! $ fjoin ! $ nothing ! $ fjoin ! $
     move ! (3 ∷ []) $ nothing ! $ move ! (1 ∷ 0 ∷ []) $ join ! $ move ! (2 ∷ 0 ∷ []) $ join ! $ move ! (2 ∷ 0 ∷ []) $ join ! $
-    sets ! (of_opd ! (unit_lit !)) refl (tt, tt) $ feq_i ! (List Val) (vunit ∷ []) (vunit ∷ []) refl $ use0 𝓛 (raw (fact 𝓤 Told)) (fact_i 𝓤 Told (emp 𝓤) (refl, refl)) $
+    sets ! (of_opd ! (unit_lit !)) refl (tt, tt) $ feq_i ! (List Val) (vunit ∷ []) (vunit ∷ []) refl $ use0 𝓛 (raw (fact 𝓤 GhostObjects)) (fact_i 𝓤 GhostObjects (emp 𝓤) (refl, refl)) $
     returns ! (look_at ! 0 refl) $ free_all ! refl $ keep ! (2 ∷ 3 ∷ 1 ∷ 0 ∷ []) $ by ! (leaves 𝓛 En hs c z vunit tt (tt, (tt, (n, tt))) (tt, (tt, (tt, tt)))))))

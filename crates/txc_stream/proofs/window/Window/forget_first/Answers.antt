@@ -12,5 +12,5 @@ invariant_of-self g c =
       name = h.name;
       whole = h.whole;
       begins = omega (arith, some);
-      noted = kept_rest g.M.Noted.notes w.front.list w.first w.notes.items h.noted;
+      noted = kept_rest g.M.Witnessed.notes w.front.list w.first w.notes.items h.noted;
     })

@@ -1,5 +1,5 @@
 use Rattle.std.proofs.lemmas.Result.{IfErr-weaker}
-use Rattle.txc_tags.specs.TextReading.{IsRefused}
+use Rattle.txc_tags.specs.TextReader.{IsRefused}
 use Rattle.txc_tags.proofs.TextKeys.{IsArguments, closed_refused, some_refused}
 use Rattle.txc_tags.proofs.text.key.read_arguments.Goals as goal
 

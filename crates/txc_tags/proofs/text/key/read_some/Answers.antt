@@ -1,8 +1,8 @@
 use Rattle.std.proofs.Common.{◌≡◌, ◌≢◌, ℕ, List, ◌+◌, ◌∷◌, [], length, length-append, sym, ap, ◌∙◌, subst, arith}
 use Rattle.std.proofs.lemmas.Result.{IfOk-weaker, IfErr-weaker}
 use Rattle.txc_tags.specs.TextGrammar.{IsTextOf}
-use Rattle.txc_tags.specs.TextKeyReading.{closed_text, AreArguments, AreSome}
-use Rattle.txc_tags.specs.TextReading.{IsRefused}
+use Rattle.txc_tags.specs.TextKeyReader.{closed_text, AreArguments, AreSome}
+use Rattle.txc_tags.specs.TextReader.{IsRefused}
 use Rattle.txc_tags.proofs.TextReading.{handed_on, other_byte}
 use Rattle.txc_tags.proofs.TextKeys.{HasArgs, number_wrong, after_wrong, one_more, all_args, over, neither}
 use Rattle.txc_tags.proofs.text.key.read_some.Goals as goal

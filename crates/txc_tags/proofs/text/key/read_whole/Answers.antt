@@ -1,6 +1,6 @@
 use Rattle.txc_tags.specs.TextGrammar.{IsText}
 use Rattle.txc_tags.specs.TextKey.{key_text, IsKeyInRange}
-use Rattle.txc_tags.specs.TextReading.{IsRefused}
+use Rattle.txc_tags.specs.TextReader.{IsRefused}
 use Rattle.txc_tags.proofs.TextReading.{handed_on}
 use Rattle.txc_tags.proofs.TextKeys.{function_wrong, open_wrong, arguments_refused}
 use Rattle.txc_tags.proofs.text.key.read_whole.Goals as goal

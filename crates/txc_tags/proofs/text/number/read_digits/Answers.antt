@@ -1,6 +1,6 @@
 use Rattle.std.proofs.Common.{◌≡◌, ◌∷◌, sym, arith, ◌∙◌}
 use Rattle.std.proofs.lemmas.Result.{IfErr-weaker}
-use Rattle.txc_tags.specs.TextReading.{GoesWrong, IsNumber}
+use Rattle.txc_tags.specs.TextReader.{GoesWrong, IsNumber}
 use Rattle.txc_tags.proofs.TextDigits.{no_digits}
 use Rattle.txc_tags.specs.TextNumber.{digits_read}
 use Rattle.txc_tags.proofs.TextReading.{nothing_left}

@@ -1,5 +1,5 @@
 use Rattle.std.specs.Fmt.{decimal}
-use Rattle.txc_tags.specs.TextReading.{IsNumber}
+use Rattle.txc_tags.specs.TextReader.{IsNumber}
 use Rattle.txc_tags.proofs.TextReading.{trailing_refused, wrong_refused}
 use Rattle.txc_tags.proofs.text.number.read_number.Goals as goal
 

@@ -1,7 +1,7 @@
 use Rattle.std.proofs.Common.{arith, refl}
 use Rattle.std.proofs.lemmas.Result.{IfOk-weaker, IfErr-weaker}
 use Rattle.std.specs.Fmt.{decimal}
-use Rattle.txc_tags.specs.TextReading.{IsWord, IsNumber, IsNumbered, GoesWrong}
+use Rattle.txc_tags.specs.TextReader.{IsWord, IsNumber, IsNumbered, GoesWrong}
 use Rattle.txc_tags.proofs.TextReading.{first_wrong, then_wrong, then_reads, word_apart, handed_on}
 use Rattle.txc_tags.proofs.text.number.read_numbered.Goals as goal
 

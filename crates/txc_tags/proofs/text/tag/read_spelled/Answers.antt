@@ -1,6 +1,6 @@
 use Rattle.std.proofs.Common.{arith, ◌≡◌, ◌≤◌, sym}
-use Rattle.txc_tags.specs.TextReading.{GoesWrong}
-use Rattle.txc_tags.specs.TextTagReading.{IsSpelled}
+use Rattle.txc_tags.specs.TextReader.{GoesWrong}
+use Rattle.txc_tags.specs.TextTagReader.{IsSpelled}
 use Rattle.txc_tags.proofs.TextReading.{handed_on}
 use Rattle.txc_tags.proofs.TextTags.{opening_wrong, last_wrong, reads_tag}
 use Rattle.txc_tags.proofs.text.tag.read_spelled.Goals as goal

@@ -1,6 +1,6 @@
 use Rattle.std.proofs.Common.{sym, subst}
-use Rattle.txc_txn.specs.Core.{value_of}
-use Rattle.txc_txn.specs.Kept.{txn_value, TxnValue, HasGoneOn, IsShownRight}
+use Rattle.txc_txn.specs.TxnCore.{value_of}
+use Rattle.txc_txn.specs.RunningTxn.{txn_value, TxnValue, HasGoneOn, IsShownRight}
 use Rattle.txc_txn.proofs.Cores.{right_seen}
 use Rattle.txc_db.proofs.Histories.{states_stay}
 use Rattle.txc_txn.proofs.running_txn.RunningTxn.next.Goals as goal

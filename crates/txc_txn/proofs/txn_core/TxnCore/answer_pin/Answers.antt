@@ -1,8 +1,8 @@
 use Rattle.std.proofs.Common.{rules, ◌≡◌, ◌≤◌, Some, Result, subst}
 use Rattle.txc_db.specs.declared.error.DbError.{DbError}
 use Rattle.txc_db.specs.declared.pinned.Pinned.{Pinned}
-use Rattle.txc_ports.specs.declared.reply.PortReply.TheVariants as ports
-use Rattle.txc_txn.specs.Core.{IsAnswered, least_present, value_of}
+use Rattle.txc_txn_ports.specs.declared.reply.PortReply.TheVariants as ports
+use Rattle.txc_txn.specs.TxnCore.{IsAnswered, least_present, value_of}
 use Rattle.txc_txn.proofs.Cores.{core_adding}
 use Rattle.txc_txn.proofs.txn_core.TxnCore.answer_pin.Goals as goal
 

@@ -1,6 +1,6 @@
 use Rattle.std.proofs.Common.{ap, rules, sym, subst}
 use Rattle.txc_pinset.specs.Members.{PinSetValue}
-use Rattle.txc_txn.specs.Core.{CoreValue, CoreHolds, IsCore, IsRightPortReply, PinsAfter, first_call, value_of}
+use Rattle.txc_txn.specs.TxnCore.{CoreValue, CoreHolds, IsCore, IsRightPortReply, PinsAfter, first_call, value_of}
 use Rattle.txc_txn.specs.ByHand.{FirstExists, HearTransition}
 use Rattle.txc_txn.proofs.Cores.{core_seen, holds_seen}
 use Rattle.txc_txn.proofs.ByHand.{hear_seen}
@@ -29,8 +29,8 @@ returns-clause-holds c = λ next objects after L M begins left right h holds.
 pub returns-clause-gone_on : goal.returns-clause-gone_on
 returns-clause-gone_on c =
     let new = value_of c.heard.new.self in
-    let leads = hear_seen (value_of c.args.self.now) c.see.new.self.seen c.args.reply new c.heard.result
-    (subst (λ (v : CoreValue). HearTransition v c.args.reply new c.heard.result) c.see.ensures.same c.heard.ensures.leads) in
+    let transition = hear_seen (value_of c.args.self.now) c.see.new.self.seen c.args.reply new c.heard.result
+    (subst (λ (v : CoreValue). HearTransition v c.args.reply new c.heard.result) c.see.ensures.same c.heard.ensures.transition) in
     let pins = subst (λ (p : PinSetValue). PinsAfter (record (value_of c.args.self.now) { pins = p }) c.args.reply new.pins)
     (ap (λ (v : CoreValue). v.pins) c.see.ensures.same) c.heard.ensures.pins in
-    search (rules, leads, pins)
+    search (rules, transition, pins)

@@ -1,9 +1,9 @@
 use Rattle.std.proofs.Common.{rules, ◌≡◌, None}
 use Rattle.txc_app.specs.Eval.{Next}
-use Rattle.txc_registry.specs.Objects.{Objects}
-use Rattle.txc_cushion.specs.Pinning.{pin_of}
-use Rattle.txc_ports.specs.Answers.{IsFresh}
-use Rattle.txc_txn.specs.Core.{IsCore, value_of}
+use Rattle.txc_call_registry.specs.Objects.{Objects}
+use Rattle.txc_cushion.specs.Pin.{pin_of}
+use Rattle.txc_txn_ports.specs.Answers.{IsFresh}
+use Rattle.txc_txn.specs.TxnCore.{IsCore, value_of}
 use Rattle.txc_txn.proofs.txn_core.TxnCore.hear_add.Goals as goal
 
 pub returns-in-Some-first : goal.returns-in-Some-first
@@ -11,7 +11,7 @@ returns-in-Some-first c = record {
   fits = search rules;
   holds = search rules;
   turn_fits = search rules;
-  leads = search rules;
+  transition = search rules;
   rests = tt;
   adds = search rules;
   pins = search rules;
@@ -42,9 +42,9 @@ returns-in-None c =
       holds = λ next objects after L left right h holds.
           let fresh : IsFresh L c.args.self.now.bounds (pin_of c.args.pinned.now) = search rules in
           c.asks.ensures.holds next objects after L left (free next objects h)
-          (c.join_pin.ensures.holds next objects L fresh (record { meant = holds.meant; coming = rw none tt }));
+          (c.join_pin.ensures.holds next objects L fresh (record { valid = holds.valid; coming = rw none tt }));
       turn_fits = search rules;
-      leads = search rules;
+      transition = search rules;
       rests = tt;
       adds = search rules;
       pins = search rules;

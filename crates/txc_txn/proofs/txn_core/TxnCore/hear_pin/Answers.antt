@@ -2,9 +2,9 @@ use Rattle.std.proofs.Common.{rules, ◌≡◌, ◌≤◌, Some, Result, subst}
 use Rattle.txc_db.specs.declared.error.DbError.{DbError}
 use Rattle.txc_db.specs.declared.pinned.Pinned.{Pinned}
 use Rattle.txc_app.specs.Eval.{Next}
-use Rattle.txc_registry.specs.Objects.{AllIdle, Objects}
-use Rattle.txc_ports.specs.declared.reply.PortReply.TheVariants as ports
-use Rattle.txc_txn.specs.Core.{IsAnswered, IsCore, least_present, value_of}
+use Rattle.txc_call_registry.specs.Objects.{AllIdle, Objects}
+use Rattle.txc_txn_ports.specs.declared.reply.PortReply.TheVariants as ports
+use Rattle.txc_txn.specs.TxnCore.{IsAnswered, IsCore, least_present, value_of}
 use Rattle.txc_txn.proofs.Cores.{core_adding}
 use Rattle.txc_txn.proofs.txn_core.TxnCore.hear_pin.Goals as goal
 
@@ -14,7 +14,7 @@ returns-in-Err c = record {
       let idle : AllIdle after = rw c.drop_call.ensures.answer at left in c.drop_call.ensures.fits next objects after idle h;
   holds = λ next objects after L left right h holds. c.drop_call.ensures.holds next objects after L holds;
   turn_fits = search rules;
-  leads = search rules;
+  transition = search rules;
   rests = tt;
   adds = search rules;
   pins = search rules;
@@ -35,7 +35,7 @@ returns c =
       fits = search (rules, adding);
       holds = search rules;
       turn_fits = search rules;
-      leads = search rules;
+      transition = search rules;
       rests = tt;
       adds = search rules;
       pins = search rules;

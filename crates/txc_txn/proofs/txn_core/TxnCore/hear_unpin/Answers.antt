@@ -1,5 +1,5 @@
 use Rattle.std.proofs.Common.{rules}
-use Rattle.txc_registry.specs.Objects.{AllIdle}
+use Rattle.txc_call_registry.specs.Objects.{AllIdle}
 use Rattle.txc_txn.proofs.txn_core.TxnCore.hear_unpin.Goals as goal
 
 pub returns : goal.returns
@@ -8,7 +8,7 @@ returns c = record {
       let idle : AllIdle after = rw c.drop_call.ensures.answer at left in c.drop_call.ensures.fits next objects after idle h;
   holds = λ next objects after L left right h holds. c.drop_call.ensures.holds next objects after L holds;
   turn_fits = search rules;
-  leads = search rules;
+  transition = search rules;
   rests = tt;
   adds = search rules;
   pins = search rules;

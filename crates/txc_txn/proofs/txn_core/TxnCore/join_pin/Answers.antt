@@ -1,5 +1,5 @@
-use Rattle.txc_cushion.specs.Pinning.{pin_of}
-use Rattle.txc_txn.specs.Core.{value_of}
+use Rattle.txc_cushion.specs.Pin.{pin_of}
+use Rattle.txc_txn.specs.TxnCore.{value_of}
 use Rattle.txc_txn.proofs.Cores.{core_joined, holds_joined}
 use Rattle.txc_txn.proofs.Cited.{never_empty}
 use Rattle.txc_txn.proofs.txn_core.TxnCore.join_pin.Goals as goal

@@ -1,6 +1,6 @@
 use Rattle.std.proofs.Common.{◌≢◌, []}
 use Rattle.txc_pinset.specs.Members.{kept}
-use Rattle.txc_txn.specs.Core.{value_of}
+use Rattle.txc_txn.specs.TxnCore.{value_of}
 use Rattle.txc_txn.proofs.Cores.{all_held, core_narrowed, holds_narrowed}
 use Rattle.txc_txn.proofs.Cited.{keeps_exactly, never_empty}
 use Rattle.txc_txn.proofs.txn_core.TxnCore.narrow.Goals as goal

@@ -1,6 +1,6 @@
 use Rattle.std.proofs.Common.{ap, rules, sym, subst}
 use Rattle.txc_pinset.specs.Members.{PinSetValue}
-use Rattle.txc_txn.specs.Core.{CoreValue, CoreHolds, IsRightPortReply, PinsAfter, value_of}
+use Rattle.txc_txn.specs.TxnCore.{CoreValue, CoreHolds, IsRightPortReply, PinsAfter, value_of}
 use Rattle.txc_txn.specs.Transitions.{ReplyTransition}
 use Rattle.txc_txn.proofs.Cores.{core_seen, holds_seen, leads_seen}
 use Rattle.txc_db.proofs.Histories.{states_stay}
@@ -20,8 +20,8 @@ pub returns-clause-gone_on : goal.returns-clause-gone_on
 returns-clause-gone_on g c =
     let next = g.A.App.next in
     let new = value_of c.answer.new.self in
-    let leads = leads_seen next (value_of c.args.self.now) c.see.new.self.seen c.args.registry.now c.args.reply new c.answer.new.registry c.answer.result
-    (subst (λ (v : CoreValue). ReplyTransition next v c.args.registry.now c.args.reply new c.answer.new.registry c.answer.result) c.see.ensures.same c.answer.ensures.leads) in
+    let transition = leads_seen next (value_of c.args.self.now) c.see.new.self.seen c.args.registry.now c.args.reply new c.answer.new.registry c.answer.result
+    (subst (λ (v : CoreValue). ReplyTransition next v c.args.registry.now c.args.reply new c.answer.new.registry c.answer.result) c.see.ensures.same c.answer.ensures.transition) in
     let pins = subst (λ (p : PinSetValue). PinsAfter (record (value_of c.args.self.now) { pins = p }) c.args.reply new.pins)
     (ap (λ (v : CoreValue). v.pins) c.see.ensures.same) c.answer.ensures.pins in
-    search (rules, leads, pins)
+    search (rules, transition, pins)

@@ -1,4 +1,4 @@
-use Rattle.txc_registry.specs.Objects.{AllIdle}
+use Rattle.txc_call_registry.specs.Objects.{AllIdle}
 use Rattle.txc_txn.proofs.txn_core.TxnCore.pin_by_hand.Goals as goal
 
 pub returns-in_default-clause-fits : goal.returns-in_default-clause-fits

@@ -1,9 +1,9 @@
 use Rattle.std.proofs.Common.{◌≡◌, Some, None, Err, refl, ap, subst, ◌∙◌}
 use Rattle.txc_tags.specs.Keys.{Call}
-use Rattle.txc_ports.specs.declared.turn.Turn.TheVariants.{Ended}
+use Rattle.txc_txn_ports.specs.declared.turn.Turn.TheVariants.{Ended}
 use Rattle.txc_txn.specs.ByHand.{standing_of, recorded_by_hand}
-use Rattle.txc_txn.specs.Core.{value_of}
-use Rattle.txc_call.specs.Running.{objects_after}
+use Rattle.txc_txn.specs.TxnCore.{value_of}
+use Rattle.txc_call.specs.CallSteps.{objects_after}
 use Rattle.txc_txn.proofs.Cores.{common, core_went_on, holds_went_on}
 use Rattle.txc_txn.proofs.txn_core.TxnCore.ran.Goals as goal
 
@@ -40,15 +40,15 @@ returns-in-Ok-clause-holds c = λ next objects after L need within is asked ther
     (core_went_on next objects (value_of c.args.self.now) None (λ i d below. tt) ran c.ran.new.self
     (λ t here all. kept.within t all) (λ present. refl) (λ none unreached. kept.no_reach unreached) c.requires.none need is kept.fits h)
     (holds_went_on next objects (value_of c.args.self.now) None (λ i d below. tt) ran c.ran.new.self
-    (λ t here all. kept.within t all) (λ present. refl) (λ none unreached. kept.no_reach unreached) L (kept.holds L holds.meant.right) holds)
+    (λ t here all. kept.within t all) (λ present. refl) (λ none unreached. kept.no_reach unreached) L (kept.holds L holds.valid.right) holds)
 
 pub returns-in-Ok-clause-asked : goal.returns-in-Ok-clause-asked
 returns-in-Ok-clause-asked c = record {
   turn_fits = c.asks.ensures.turn;
-  leads = λ need is objects. (
+  transition = λ need is objects. (
     standing_of c.ran.new.self (objects_after objects c.args.self.now.machine.frames need c.args.ask),
     c.in-Ok.ensures.answer objects need is,
-    c.asks.ensures.leads (objects_after objects c.args.self.now.machine.frames need c.args.ask),
+    c.asks.ensures.transition (objects_after objects c.args.self.now.machine.frames need c.args.ask),
   );
   adds = c.asks.ensures.no_add;
   left = c.asks.ensures.left;
@@ -60,7 +60,7 @@ returns-in-Ok-clause-asked c = record {
 pub returns-in-Err-clause-asked : goal.returns-in-Err-clause-asked
 returns-in-Err-clause-asked c = record {
   turn_fits = (c.in-Err.ensures.rest.0, c.requires.none);
-  leads = λ need is objects. (Err c.in-Err.error, c.in-Err.ensures.answer objects need is, ap (λ e. Some (Ended (Err e))) c.into.ensures);
+  transition = λ need is objects. (Err c.in-Err.error, c.in-Err.ensures.answer objects need is, ap (λ e. Some (Ended (Err e))) c.into.ensures);
   adds = tt;
   left = rw c.requires.none refl;
   recorded = refl;

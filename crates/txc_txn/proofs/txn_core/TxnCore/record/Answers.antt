@@ -1,4 +1,4 @@
-use Rattle.txc_txn.specs.Core.{value_of}
+use Rattle.txc_txn.specs.TxnCore.{value_of}
 use Rattle.txc_txn.proofs.Cores.{core_dropped, holds_recorded, holds_dropped}
 use Rattle.txc_txn.proofs.txn_core.TxnCore.record.Goals as goal
 

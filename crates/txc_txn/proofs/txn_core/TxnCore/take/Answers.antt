@@ -1,8 +1,8 @@
 use Rattle.std.proofs.Common.{◌≡◌, Some, refl, sym, ap, subst, ◌∙◌}
 use Rattle.txc_tags.specs.Keys.{Call}
-use Rattle.txc_call.specs.Calling.{Calling}
+use Rattle.txc_call.specs.CallMachine.{Calling}
 use Rattle.txc_call.specs.Needs.{reply_reach}
-use Rattle.txc_txn.specs.Core.{value_of}
+use Rattle.txc_txn.specs.TxnCore.{value_of}
 use Rattle.txc_txn.specs.ByHand.{standing_of, recorded_by_hand, HandTransition}
 use Rattle.txc_call.specs.declared.need.Need.TheVariants as needs
 use Rattle.txc_txn.proofs.ByHand.{served}
@@ -34,7 +34,7 @@ returns-clause-holds c = λ next objects after L left right h holds.
     (core_went_on next objects (value_of c.args.self.now) (reply_reach c.args.reply) c.requires.within objects c.take.new.self
     c.take.ensures.within c.requires.present c.take.ensures.unreached c.requires.none n is (c.take.ensures.fits next objects h.call) h)
     (holds_went_on next objects (value_of c.args.self.now) (reply_reach c.args.reply) c.requires.within objects c.take.new.self
-    c.take.ensures.within c.requires.present c.take.ensures.unreached L (c.take.ensures.holds next objects L n is h.call (right n is) holds.meant.right) holds)
+    c.take.ensures.within c.requires.present c.take.ensures.unreached L (c.take.ensures.holds next objects L n is h.call (right n is) holds.valid.right) holds)
 
 pub returns-clause-recorded : goal.returns-clause-recorded
 returns-clause-recorded c =
@@ -45,9 +45,9 @@ pub returns-clause-goes_on : goal.returns-clause-goes_on
 returns-clause-goes_on c = λ unended.
     c.asks.ensures.goes_on unended ∙ ap (λ (v : Calling). Some v.top) (c.take.ensures.after c.requires.reply.0 c.requires.reply.1)
 
-pub returns-clause-leads : goal.returns-clause-leads
-returns-clause-leads c = λ need is objects.
-    subst (λ (v : Calling). HandTransition (standing_of v objects) (value_of c.asks.new.self) c.asks.result) (c.take.ensures.after need is) (c.asks.ensures.leads objects)
+pub returns-clause-transition : goal.returns-clause-transition
+returns-clause-transition c = λ need is objects.
+    subst (λ (v : Calling). HandTransition (standing_of v objects) (value_of c.asks.new.self) c.asks.result) (c.take.ensures.after need is) (c.asks.ensures.transition objects)
 
 pub returns-clause-rests : goal.returns-clause-rests
 returns-clause-rests c =

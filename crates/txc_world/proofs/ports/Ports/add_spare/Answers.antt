@@ -2,7 +2,7 @@ use Rattle.std.proofs.Common.{◌≡◌, ◌∙◌, ◌<◌, List, Ok, Err, leng
 use Rattle.txc_db.specs.declared.pinned.Pinned.{Pinned}
 use Rattle.txc_db.specs.DatabaseValue.{is_held, without}
 use Rattle.txc_world.specs.Ports.{PortsValue}
-use Rattle.txc_world.specs.Keeping.{stamps_of_pins}
+use Rattle.txc_world.specs.KeeperAtPorts.{stamps_of_pins}
 use Rattle.txc_world.proofs.PortsLemmas.{added_spare, keeps_itself, keeps_without_spare, ports_without_spare, spare_is_part}
 use Rattle.txc_world.proofs.ports.Ports.add_spare.Goals as goal
 
@@ -19,7 +19,7 @@ add-requires g c =
 
 pub returns-in_default : goal.returns-in_default
 returns-in_default g c = record {
-  leads = (refl, subst (λ (l : List Pinned). is_held c.args.stamp (stamps_of_pins l) ≡ false) (c.deref.ensures.value ∙ ap (λ (v : PortsValue). v.spare) c.self.view_is) c.in_default.ensures.none);
+  transition = (refl, subst (λ (l : List Pinned). is_held c.args.stamp (stamps_of_pins l) ≡ false) (c.deref.ensures.value ∙ ap (λ (v : PortsValue). v.spare) c.self.view_is) c.in_default.ensures.none);
   keeps = keeps_itself c.args.self.now;
 }
 
@@ -31,11 +31,11 @@ returns-in-Ok g c =
     let within : at < length p.spare = subst (λ (l : List Pinned). at < length l) c.deref.ensures.value c.in-Some.ensures.within in
     let is : c.remove-pinned.result ≡ get_or p.spare at c.remove-pinned.result = c.remove-pinned.ensures.value in
     record {
-      leads = added_spare p c.args.self.now c.self.view_is stamp at c.remove-pinned.result c.remove-pinned.new.self.items c.add.new.self (Ok tt) within is
+      transition = added_spare p c.args.self.now c.self.view_is stamp at c.remove-pinned.result c.remove-pinned.new.self.items c.add.new.self (Ok tt) within is
           (subst (λ (l : List Pinned). get_or (stamps_of_pins l) at 0 ≡ stamp) c.deref.ensures.value c.in-Some.ensures.there)
           (subst (λ (l : List Pinned). is_held stamp (stamps_of_pins l) ≡ true) c.deref.ensures.value c.in-Some.ensures.held)
           (subst (λ (l : List Pinned). stamps_of_pins (remove l at) ≡ without stamp (stamps_of_pins l)) c.deref.ensures.value c.in-Some.ensures.place)
-          c.remove-pinned.ensures.items c.in-Ok.ensures.leads;
+          c.remove-pinned.ensures.items c.in-Ok.ensures.transition;
       keeps = keeps_without_spare p c.args.self.now c.add.new.self c.remove-pinned.new.self.items c.self.view_is c.add.ensures.keeps;
     }
 
@@ -47,10 +47,10 @@ returns g c =
     let within : at < length p.spare = subst (λ (l : List Pinned). at < length l) c.deref.ensures.value c.in-Some.ensures.within in
     let is : c.remove-pinned.result ≡ get_or p.spare at c.remove-pinned.result = c.remove-pinned.ensures.value in
     record {
-      leads = added_spare p c.args.self.now c.self.view_is stamp at c.remove-pinned.result c.remove-pinned.new.self.items c.add.new.self (Err c.in-Err.refusal) within is
+      transition = added_spare p c.args.self.now c.self.view_is stamp at c.remove-pinned.result c.remove-pinned.new.self.items c.add.new.self (Err c.in-Err.refusal) within is
           (subst (λ (l : List Pinned). get_or (stamps_of_pins l) at 0 ≡ stamp) c.deref.ensures.value c.in-Some.ensures.there)
           (subst (λ (l : List Pinned). is_held stamp (stamps_of_pins l) ≡ true) c.deref.ensures.value c.in-Some.ensures.held)
           (subst (λ (l : List Pinned). stamps_of_pins (remove l at) ≡ without stamp (stamps_of_pins l)) c.deref.ensures.value c.in-Some.ensures.place)
-          c.remove-pinned.ensures.items c.in-Err.ensures.leads;
+          c.remove-pinned.ensures.items c.in-Err.ensures.transition;
       keeps = keeps_without_spare p c.args.self.now c.add.new.self c.remove-pinned.new.self.items c.self.view_is c.add.ensures.keeps;
     }

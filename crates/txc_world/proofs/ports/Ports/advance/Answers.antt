@@ -16,7 +16,7 @@ invariant_of-self g c =
 
 pub returns-then-at-len : goal.returns-then-at-len
 returns-then-at-len g c = record {
-  leads = (refl, subst (λ n. n ≤ c.args.at) c.len.ensures c.if-at-len.true);
+  transition = (refl, subst (λ n. n ≤ c.args.at) c.len.ensures c.if-at-len.true);
   keeps = keeps_itself c.args.self.now;
 }
 
@@ -26,7 +26,7 @@ returns g c =
     let node = c.index_mut-node.result.now in
     let within : c.args.at < length c.args.self.now.nodes = subst (λ n. c.args.at < n) c.len.ensures c.if-at-len.false in
     record {
-      leads = kept_advance c.args.self.now (record p { nodes = set p.nodes c.args.at c.advance.new.node }) c.args.at c.advance.result c.match-advance.result
+      transition = kept_advance c.args.self.now (record p { nodes = set p.nodes c.args.at c.advance.new.node }) c.args.at c.advance.result c.match-advance.result
           (led_advanced p c.args.self.now c.self.view_is c.args.at node c.advance.new.node c.advance.result within c.index_mut-node.ensures.value c.advance.ensures)
           (elim c.match-advance.branch [
             | in-Ok w ↦ w.result-is ∙ sym (ap told_advance w.in-Ok.is)

@@ -2,12 +2,12 @@ use Rattle.std.proofs.Common.{◌<◌, Option, None, length, set, sym, subst}
 use Rattle.std.specs.Result.{result_unwrap_or}
 use Rattle.txc_app.specs.Claims.{IsTrueIn, entry_shown}
 use Rattle.txc_db.specs.declared.answered.Answered.{Answered}
-use Rattle.txc_node.specs.declared.hit.Shown.{Shown}
-use Rattle.txc_ports.specs.declared.request.PortRequest.{PortRequest}
-use Rattle.txc_ports.specs.declared.request.PortRequest.TheVariants as requests
-use Rattle.txc_ports.specs.declared.reply.PortReply.TheVariants as replies
-use Rattle.txc_ports.specs.Asking.{AddsSuch, MayAsk}
-use Rattle.txc_world.specs.Asks.{IsAsked}
+use Rattle.txc_node.specs.declared.hit.HitValue.{HitValue}
+use Rattle.txc_txn_ports.specs.declared.request.PortRequest.{PortRequest}
+use Rattle.txc_txn_ports.specs.declared.request.PortRequest.TheVariants as requests
+use Rattle.txc_txn_ports.specs.declared.reply.PortReply.TheVariants as replies
+use Rattle.txc_txn_ports.specs.PortRequests.{AddsSuch, MayAsk}
+use Rattle.txc_world.specs.PortRequests.{IsAsked}
 use Rattle.txc_world.specs.Parts.{IsPartOf}
 use Rattle.txc_world.specs.Ports.{IsNodeOf, KeepsRow, PortsValue, whole_of}
 use Rattle.txc_world.proofs.AskLemmas.{asked_add, asked_insert, asked_lookup, asked_pin, asked_query, asked_unpin}
@@ -18,22 +18,22 @@ use Rattle.txc_world.proofs.ports.Ports.ask.Goals as goal
 pub returns-in-Pin : goal.returns-in-Pin
 returns-in-Pin g c =
     subst (λ (r : PortRequest). IsAsked g.A.App.next c.args.pass c.args.seen.now r c.args.self.now c.pin.new.self (replies.Pin c.pin.result)) (sym c.in-Pin.is)
-    (asked_pin g.A.App.next c.args.pass c.args.seen.now c.args.self.now c.pin.new.self c.pin.ensures.keeps c.count_right.ensures c.in-Pin.now c.in-Pin.at_least c.pin.result c.pin.ensures.leads)
+    (asked_pin g.A.App.next c.args.pass c.args.seen.now c.args.self.now c.pin.new.self c.pin.ensures.keeps c.count_right.ensures c.in-Pin.now c.in-Pin.at_least c.pin.result c.pin.ensures.transition)
 
 pub returns-in-AddPin : goal.returns-in-AddPin
 returns-in-AddPin g c =
     subst (λ (r : PortRequest). IsAsked g.A.App.next c.args.pass c.args.seen.now r c.args.self.now c.add-added.new.self (replies.AddPin c.in-AddPin.pinned c.add-added.result)) (sym c.in-AddPin.is)
-    (asked_add g.A.App.next c.args.pass c.args.seen.now c.args.self.now c.add-added.new.self c.add-added.ensures.keeps c.count_right.ensures c.in-AddPin.pinned c.add-added.result (subst (AddsSuch (IsPartOf (whole_of c.args.self.now))) c.in-AddPin.is c.requires.shown) c.add-added.ensures.leads)
+    (asked_add g.A.App.next c.args.pass c.args.seen.now c.args.self.now c.add-added.new.self c.add-added.ensures.keeps c.count_right.ensures c.in-AddPin.pinned c.add-added.result (subst (AddsSuch (IsPartOf (whole_of c.args.self.now))) c.in-AddPin.is c.requires.shown) c.add-added.ensures.transition)
 
 pub returns-in-Unpin : goal.returns-in-Unpin
 returns-in-Unpin g c =
     subst (λ (r : PortRequest). IsAsked g.A.App.next c.args.pass c.args.seen.now r c.args.self.now c.unpin.new.self (replies.Unpin c.unpin.result)) (sym c.in-Unpin.is)
-    (asked_unpin g.A.App.next c.args.pass c.args.seen.now c.args.self.now c.unpin.new.self c.unpin.ensures.keeps c.count_right.ensures c.in-Unpin.stamp c.unpin.result c.unpin.ensures.leads)
+    (asked_unpin g.A.App.next c.args.pass c.args.seen.now c.args.self.now c.unpin.new.self c.unpin.ensures.keeps c.count_right.ensures c.in-Unpin.stamp c.unpin.result c.unpin.ensures.transition)
 
 pub returns-in-Query : goal.returns-in-Query
 returns-in-Query g c =
     subst (λ (r : PortRequest). IsAsked g.A.App.next c.args.pass c.args.seen.now r c.args.self.now c.find.new.self (replies.Query c.find.result)) (sym c.in-Query.is)
-    (asked_query g.A.App.next c.args.pass c.args.seen.now c.args.self.now c.find.new.self (keeps_same c.args.self.now c.find.new.self c.find.ensures.same) c.count_right.ensures c.in-Query.query c.in-Query.stamp c.find.result c.find.ensures.same c.find.ensures.leads)
+    (asked_query g.A.App.next c.args.pass c.args.seen.now c.args.self.now c.find.new.self (keeps_same c.args.self.now c.find.new.self c.find.ensures.same) c.count_right.ensures c.in-Query.query c.in-Query.stamp c.find.result c.find.ensures.same c.find.ensures.transition)
 
 -- ---- at a node
 
@@ -43,10 +43,10 @@ invariant_of-self g c =
     let q : PortsValue = c.args.self.now in
     let within : c.in-Lookup.node < length q.nodes = subst (MayAsk g.A.App.next q.database.events (length q.nodes) c.args.seen.now.history) c.in-Lookup.is c.requires.may in
     let done = c.lookup.ensures in
-    let leads = looked_up c.args.pass c.in-Lookup.key c.in-Lookup.lo c.in-Lookup.hi c.index_mut-at.result.now c.lookup.new.self c.lookup.result done.after done.answer done.left done.refused in (
+    let transition = looked_up c.args.pass c.in-Lookup.key c.in-Lookup.lo c.in-Lookup.hi c.index_mut-at.result.now c.lookup.new.self c.lookup.result done.after done.answer done.left done.refused in (
       c.self.invariant.0,
       ports_node_from p q c.self.view_is c.in-Lookup.node c.index_mut-at.result.now c.lookup.new.self c.self.invariant.1
-          within c.index_mut-at.ensures.value (stays_looked_up _ _ _ _ _ _ _ _ leads),
+          within c.index_mut-at.ensures.value (stays_looked_up _ _ _ _ _ _ _ _ transition),
     )
 
 pub returns-in-Lookup : goal.returns-in-Lookup
@@ -56,17 +56,17 @@ returns-in-Lookup g c =
     let within : c.in-Lookup.node < length q.nodes = subst (MayAsk g.A.App.next q.database.events (length q.nodes) c.args.seen.now.history) c.in-Lookup.is c.requires.may in
     let done = c.lookup.ensures in
     let old = c.index_mut-at.result.now in
-    let leads = looked_up c.args.pass c.in-Lookup.key c.in-Lookup.lo c.in-Lookup.hi old c.lookup.new.self c.lookup.result done.after done.answer done.left done.refused in
+    let transition = looked_up c.args.pass c.in-Lookup.key c.in-Lookup.lo c.in-Lookup.hi old c.lookup.new.self c.lookup.result done.after done.answer done.left done.refused in
     let new : PortsValue = record p { nodes = set p.nodes c.in-Lookup.node c.lookup.new.self } in
     let keeps : KeepsRow q new = keeps_node_from p q c.self.view_is c.in-Lookup.node old c.lookup.new.self c.index_mut-at.ensures.value
-    (stays_looked_up _ _ _ _ _ _ _ _ leads) in
+    (stays_looked_up _ _ _ _ _ _ _ _ transition) in
     let node : IsNodeOf (whole_of q) q.actors old =
     node_from p q c.self.view_is c.in-Lookup.node old c.self.invariant.1 within c.index_mut-at.ensures.value in
     let found = result_unwrap_or c.lookup.result None in
     subst (λ (r : PortRequest). IsAsked g.A.App.next c.args.pass c.args.seen.now r q new (replies.Lookup c.unwrap_or.result)) (sym c.in-Lookup.is)
-    (subst (λ (hit : Option (Answered Shown)). IsAsked g.A.App.next c.args.pass c.args.seen.now (requests.Lookup c.in-Lookup.node c.in-Lookup.key c.in-Lookup.lo c.in-Lookup.hi) q new (replies.Lookup hit)) (sym c.unwrap_or.ensures)
+    (subst (λ (hit : Option (Answered HitValue)). IsAsked g.A.App.next c.args.pass c.args.seen.now (requests.Lookup c.in-Lookup.node c.in-Lookup.key c.in-Lookup.lo c.in-Lookup.hi) q new (replies.Lookup hit)) (sym c.unwrap_or.ensures)
     (asked_lookup g.A.App.next c.args.pass c.args.seen.now q new keeps c.count_right.ensures c.in-Lookup.node c.in-Lookup.key c.in-Lookup.lo c.in-Lookup.hi found
-    (led_from p q c.self.view_is c.in-Lookup.node _ old c.lookup.new.self within c.index_mut-at.ensures.value leads)
+    (led_from p q c.self.view_is c.in-Lookup.node _ old c.lookup.new.self within c.index_mut-at.ensures.value transition)
     (found_so (λ hit. IsTrueIn g.A.App.next hit.front.history (entry_shown c.in-Lookup.key hit.answer)) c.lookup.result done.right)
     (found_part (whole_of q) old c.in-Lookup.lo c.in-Lookup.hi c.lookup.result node.seen done.front done.only_if)))
 

@@ -10,8 +10,8 @@ invariant_of-self-2 g c =
     let p : PortsValue = record { database = c.self.inside.database; cushion = c.self.inside.cushion; nodes = c.self.inside.nodes.items; spare = c.self.inside.spare.items; actors = c.self.inside.actors } in
     (c.in_ok-stamp.ensures.answer, ports_grow p c.commit.new.self (commit_part_of c.self.inside.database c.commit.new.self c.args.changes.now c.in_ok-stamp.ensures.after) c.self.invariant.1)
 
-pub returns-clause-leads : goal.returns-clause-leads
-returns-clause-leads g c =
+pub returns-clause-transition : goal.returns-clause-transition
+returns-clause-transition g c =
     let p : PortsValue = record { database = c.self.inside.database; cushion = c.self.inside.cushion; nodes = c.self.inside.nodes.items; spare = c.self.inside.spare.items; actors = c.self.inside.actors } in
     let commit = c.in_ok-stamp.ensures in
     subst (λ (v : PortsValue). (record p { database = c.commit.new.self } ≡ record v { database = after_commit v.database c.args.changes.now }) × (c.in_ok-stamp.stamp ≡ newest c.commit.new.self)

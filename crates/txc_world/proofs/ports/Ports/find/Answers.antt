@@ -1,15 +1,15 @@
 use Rattle.std.proofs.Common.{◌≡◌, ◌∙◌, ap, refl, sym, subst}
 use Rattle.txc_app.proofs.Claims.{found_rows_hold}
 use Rattle.txc_db.specs.Calls.{IsAnswerable}
-use Rattle.txc_ports.specs.Asking.{IsFoundOver}
+use Rattle.txc_txn_ports.specs.PortRequests.{IsFoundOver}
 use Rattle.txc_db.specs.DatabaseValue.{front_of}
-use Rattle.txc_db.specs.Seen.{FrontValue}
-use Rattle.txc_world.specs.Asks.{IsAnswerWithFront}
+use Rattle.txc_db.specs.FrontsAndFeeds.{FrontValue}
+use Rattle.txc_world.specs.PortRequests.{IsAnswerWithFront}
 use Rattle.txc_world.specs.Ports.{PortsValue}
 use Rattle.txc_world.proofs.ports.Ports.find.Goals as goal
 
-pub returns-clause-leads : goal.returns-clause-leads
-returns-clause-leads g c =
+pub returns-clause-transition : goal.returns-clause-transition
+returns-clause-transition g c =
     let database = c.self.inside.database in
     let query = c.args.query.now in
     let stamp = c.args.stamp in

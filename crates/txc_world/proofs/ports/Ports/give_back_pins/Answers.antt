@@ -12,9 +12,9 @@ loop-pin-preserved g c =
     let is : c.pin-item.result ≡ get_or pins at c.pin-item.result = cc (c.pin-item.is, c.deref-pin-items.ensures.value) in
     record {
       same = c.give_back.ensures.same ∙ ap (λ (p : PortsValue). record p { cushion = c.give_back.new.self.cushion }) c.loop-pin.invariant.same;
-      pins = pins_then c.args.self.now c.loop-pin.self c.give_back.new.self c.pin-item.result.stamp c.give_back.result c.loop-pin.invariant.pins c.give_back.ensures.leads;
+      pins = pins_then c.args.self.now c.loop-pin.self c.give_back.new.self c.pin-item.result.stamp c.give_back.result c.loop-pin.invariant.pins c.give_back.ensures.transition;
       users = gives_one c.args.self.now c.loop-pin.self c.give_back.new.self pins at c.pin-item.result c.give_back.result give_back_counts
-          c.give_back.ensures.leads within is c.loop-pin.invariant.users;
+          c.give_back.ensures.transition within is c.loop-pin.invariant.users;
     }
 
 pub returns-clause-users : goal.returns-clause-users

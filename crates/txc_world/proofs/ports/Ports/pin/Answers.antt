@@ -8,8 +8,8 @@ invariant_of-self-2 g c =
     let p : PortsValue = record { database = c.self.inside.database; cushion = c.self.inside.cushion; nodes = c.self.inside.nodes.items; spare = c.self.inside.spare.items; actors = c.self.inside.actors } in
     (c.in_ok-pinned.ensures.answer, ports_grow p c.pin.new.self (pin_part c.self.inside.database c.pin.new.self c.args.now c.in_ok-pinned.ensures.after) c.self.invariant.1)
 
-pub returns-clause-leads : goal.returns-clause-leads
-returns-clause-leads g c =
+pub returns-clause-transition : goal.returns-clause-transition
+returns-clause-transition g c =
     let p : PortsValue = record { database = c.self.inside.database; cushion = c.self.inside.cushion; nodes = c.self.inside.nodes.items; spare = c.self.inside.spare.items; actors = c.self.inside.actors } in
     let pinned = c.in_ok-pinned.pinned in
     pinned_from p c.args.self.now c.self.view_is c.pin.new.self c.args.now c.args.at_least pinned c.in_ok-pinned.ensures.after (c.in_ok-pinned.ensures.only_if refl)

@@ -14,8 +14,8 @@ invariant_of-self-2 g c =
           (pin_part c.self.inside.database c.pin.new.self c.args.now c.in_ok-pinned.ensures.after) c.in_ok-pinned.ensures.front more,
     )
 
-pub returns-clause-leads : goal.returns-clause-leads
-returns-clause-leads g c =
+pub returns-clause-transition : goal.returns-clause-transition
+returns-clause-transition g c =
     let p : PortsValue = record { database = c.self.inside.database; cushion = c.self.inside.cushion; nodes = c.self.inside.nodes.items; spare = c.self.inside.spare.items; actors = c.self.inside.actors } in
     let pinned = c.in_ok-pinned.pinned in
     let more : c.push_reserved.new.self.items ≡ p.spare ++ pinned ∷ [] = c.push_reserved.ensures.items ∙ ap (λ (l : List Pinned). l ++ pinned ∷ []) c.reserve.ensures.items in

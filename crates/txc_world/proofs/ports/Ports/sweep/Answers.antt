@@ -20,7 +20,7 @@ invariant_of-self g c =
 
 pub returns-then-at-len : goal.returns-then-at-len
 returns-then-at-len g c = record {
-  leads = (refl, subst (λ n. n ≤ c.args.at) c.len.ensures c.if-at-len.true);
+  transition = (refl, subst (λ n. n ≤ c.args.at) c.len.ensures c.if-at-len.true);
   keeps = keeps_itself c.args.self.now;
 }
 
@@ -33,7 +33,7 @@ returns g c =
     let within : c.args.at < length c.args.self.now.nodes = subst (λ n. c.args.at < n) c.len.ensures c.if-at-len.false in
     let swept : SweepTransition p.actors c.args.horizon node new c.sweep.result = swept_so p.actors c.args.horizon node new c.sweep.result done.after done.answer done.only_if done.left done.refused in
     record {
-      leads = kept_sweep c.args.self.now (record p { nodes = set p.nodes c.args.at new }) c.args.at c.args.horizon c.sweep.result c.match-sweep.result
+      transition = kept_sweep c.args.self.now (record p { nodes = set p.nodes c.args.at new }) c.args.at c.args.horizon c.sweep.result c.match-sweep.result
           (led_from p c.args.self.now c.self.view_is c.args.at _ node new within c.index_mut-node.ensures.value
           (subst (λ (v : PortsValue). SweepTransition v.actors c.args.horizon node new c.sweep.result) c.self.view_is swept))
           (elim c.match-sweep.branch [

@@ -1,5 +1,5 @@
 use Rattle.std.proofs.Common.{◌≡◌, ℕ, ◌<◌, get_or}
-use Rattle.txc_world.specs.Keeping.{stamps_of_pins}
+use Rattle.txc_world.specs.KeeperAtPorts.{stamps_of_pins}
 use Rattle.txc_world.proofs.ports.keeper.place_of.Given as goal
 
 abbrev pub invariant-loop-at : goal.invariant-loop-at

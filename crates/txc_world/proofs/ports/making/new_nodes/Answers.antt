@@ -1,6 +1,6 @@
 use Rattle.std.proofs.Common.{◌≡◌, ◌∙◌, ◌+◌, ℕ, ◌++◌, ◌∷◌, [], length, length-append, ap, sym, subst}
 use Rattle.txc_db.specs.DatabaseValue.{front_of}
-use Rattle.txc_world.specs.Making.{AreNewNodes}
+use Rattle.txc_world.specs.NewWorld.{AreNewNodes}
 use Rattle.txc_world.proofs.MakingLemmas.{new_nodes_push}
 use Rattle.txc_world.proofs.ports.making.new_nodes.Goals as goal
 

@@ -1,6 +1,6 @@
 use Rattle.std.proofs.Common.{◌≡◌, length}
 use Rattle.txc_db.specs.DatabaseValue.{front_of}
-use Rattle.txc_world.specs.Making.{AreNewNodes}
+use Rattle.txc_world.specs.NewWorld.{AreNewNodes}
 use Rattle.txc_world.proofs.ports.making.new_nodes.Given as goal
 
 abbrev pub invariant-loop-number : goal.invariant-loop-number

@@ -3,7 +3,7 @@ use Rattle.txc_world.specs.Worlds.{WorldValue}
 use Rattle.txc_world.proofs.Balancing.{world_balanced}
 use Rattle.txc_world.proofs.Transitions.{world_led}
 use Rattle.txc_world.proofs.Stepping.{due_act, explained_act, told_act, world_acts}
-use Rattle.txc_rw.proofs.Holding.{holds_in_longer}
+use Rattle.txc_txn_rw.proofs.Holding.{holds_in_longer}
 use Rattle.txc_db.proofs.Histories.{states_stay}
 use Rattle.txc_world.proofs.world.World.act.Goals as goal
 
@@ -22,11 +22,11 @@ returns g c = record {
       c.note.ensures
       c.act_at-reply.ensures.others
       c.act_at-reply.ensures.acted.told c.act_at-reply.ensures.acted.history c.act_at-reply.ensures.acted.spare (ap (λ (w : WorldValue). w.told) c.self.view_is);
-  leads =
+  transition =
       world_led g.A.App.next c.self.inside.settings c.self.inside.ports c.act_at-reply.new.ports c.self.inside.sessions.items c.note.new.sessions.items c.self.inside.actors.items c.args.number c.act_at-reply.ensures.was c.act_at-reply.ensures.is
       c.act_at-reply.ensures.there c.act_at-reply.new.actors.items c.args.self.now _ c.args.doing.now c.act_at-reply.result
       c.act_at-reply.ensures.others
-      c.act_at-reply.ensures.leads c.self.view_is refl;
+      c.act_at-reply.ensures.transition c.self.view_is refl;
   world = record {
     history = refl;
     spare = refl;

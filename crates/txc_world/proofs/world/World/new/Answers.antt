@@ -3,8 +3,8 @@ use Rattle.std.proofs.lemmas.List.{length-map}
 use Rattle.std.proofs.lemmas.Simd.{map-map}
 use Rattle.std.proofs.lemmas.List.Elements.{All-map}
 use Rattle.txc_world.specs.declared.actor.Actor.TheVariants.{Idle}
-use Rattle.txc_world.specs.Keeping.{stamps_of_pins}
-use Rattle.txc_world.specs.Making.{AreNewPorts}
+use Rattle.txc_world.specs.KeeperAtPorts.{stamps_of_pins}
+use Rattle.txc_world.specs.NewWorld.{AreNewPorts}
 use Rattle.txc_world.specs.Ports.{whole_of}
 use Rattle.txc_world.specs.Actors.{observed_at, IsActorThere}
 use Rattle.txc_world.specs.ActorValues.{actor_at}

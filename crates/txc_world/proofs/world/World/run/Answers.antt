@@ -1,6 +1,6 @@
 use Rattle.std.proofs.Common.{◌∙◌, List, ap, subst}
 use Rattle.txc_world.specs.declared.step.Step.{Step}
-use Rattle.txc_world.specs.Observation.{told_by, AreDue, AreExplained}
+use Rattle.txc_world.specs.Observation.{observed_from, AreDue, AreExplained}
 use Rattle.txc_world.proofs.Tellings.{length_more, loop_due, loop_explained, loop_told, loop_whole, steps_done}
 use Rattle.txc_world.proofs.Balancing.{loop_tidy, loop_tidy_end}
 use Rattle.txc_world.proofs.Transitions.{loop_led, loop_led_end}
@@ -18,7 +18,7 @@ loop-step-preserved g c =
       told = loop_told g.A.App.next start steps i replies c.step-item.result c.step-reply.result c.loop-step-test.true c.step-item.is h.each
           c.loop-step.self.told c.step-reply.new.self.told h.told c.step-reply.ensures.told;
       led = loop_led g.A.App.next c.args.self.now steps i replies c.step-item.result c.step-reply.result c.loop-step-test.true c.step-item.is h.each
-          c.loop-step.self c.step-reply.new.self h.led (record { told = c.step-reply.ensures.told; leads = c.step-reply.ensures.leads; world = c.step-reply.ensures.world });
+          c.loop-step.self c.step-reply.new.self h.led (record { told = c.step-reply.ensures.told; transition = c.step-reply.ensures.transition; world = c.step-reply.ensures.world });
       due = loop_due g.A.App.next start steps i replies c.step-item.result c.step-reply.result c.loop-step-test.true c.step-item.is h.each
           c.loop-step.self.told h.told h.due c.step-reply.ensures.due;
       explained = loop_explained g.A.App.next start steps i replies c.step-item.result c.step-reply.result c.loop-step-test.true c.step-item.is h.each
@@ -31,7 +31,7 @@ loop-step-preserved g c =
 
 pub returns-clause-told : goal.returns-clause-told
 returns-clause-told g c =
-    c.loop-step.invariant.told ∙ ap (λ (ss : List Step). told_by c.args.self.now.told ss c.loop-step.replies.items) (steps_done c.args.steps.now c.loop-step.step-index c.loop-step-test.false c.loop-step.auto.step-index-end)
+    c.loop-step.invariant.told ∙ ap (λ (ss : List Step). observed_from c.args.self.now.told ss c.loop-step.replies.items) (steps_done c.args.steps.now c.loop-step.step-index c.loop-step-test.false c.loop-step.auto.step-index-end)
 
 pub returns-clause-explained : goal.returns-clause-explained
 returns-clause-explained g c =
@@ -57,8 +57,8 @@ returns-clause-tidy g c = λ in_hand h tidy.
     (loop_tidy_end c.args.steps.now c.loop-step.step-index c.loop-step.replies.items c.loop-step-test.false c.loop-step.auto.step-index-end
     c.args.self.now c.loop-step.self c.loop-step.invariant.tidy in_hand h tidy).1
 
-pub returns-clause-leads : goal.returns-clause-leads
-returns-clause-leads g c =
+pub returns-clause-transition : goal.returns-clause-transition
+returns-clause-transition g c =
     loop_led_end g.A.App.next c.args.self.now c.args.steps.now c.loop-step.step-index c.loop-step.replies.items c.loop-step-test.false c.loop-step.auto.step-index-end
     c.loop-step.self c.loop-step.invariant.led
 

@@ -1,14 +1,14 @@
 use Rattle.std.proofs.Common.{◌≡◌, ℕ, List, ap, map, refl, subst, sym, ◌∙◌}
 use Rattle.txc_world.specs.declared.step.Step.TheVariants.{Actor}
-use Rattle.txc_world.specs.Acts.{IsWholeStep}
-use Rattle.txc_world.specs.Kept.{KeepTransition}
+use Rattle.txc_world.specs.StepEffects.{IsWholeStep}
+use Rattle.txc_world.specs.KeeperStep.{KeepTransition}
 use Rattle.txc_world.specs.Holdings.{account_at}
 use Rattle.txc_world.specs.Observation.{begin_at, floor_at}
 use Rattle.txc_world.specs.Worlds.{IsBalanced, WorldValue}
 use Rattle.txc_world.proofs.Balance.{kept_balance}
 use Rattle.txc_world.proofs.KeptLemmas.{kept_due, kept_no_receipt, kept_told}
 use Rattle.txc_world.proofs.Stepping.{due_keep, told_keep, world_keeps}
-use Rattle.txc_rw.proofs.Holding.{holds_in_longer}
+use Rattle.txc_txn_rw.proofs.Holding.{holds_in_longer}
 use Rattle.txc_db.proofs.Histories.{states_stay}
 use Rattle.txc_world.proofs.world.World.step.Goals as goal
 
@@ -26,7 +26,7 @@ returns-in-BeginIn g c =
     at c.act-in-BeginIn.ensures in
     rw c.in-BeginIn.is (record {
       told = acted.told;
-      leads = acted.leads;
+      transition = acted.transition;
       world = acted.world;
       due = acted.due;
       explained = acted.explained;
@@ -37,12 +37,12 @@ pub returns-in-Keeper : goal.returns-in-Keeper
 returns-in-Keeper g c =
     let told = ap (λ (w : WorldValue). w.told) c.self-in-Keeper.view_is in
     let keep = c.in-Keeper.doing in
-    let led = c.keep-reply.ensures.leads in
+    let led = c.keep-reply.ensures.transition in
     let shown = kept_told c.self-in-Keeper.inside.ports c.keep-reply.new.ports keep c.keep-reply.result led in
     rw c.in-Keeper.is (record {
       told = told_keep c.self-in-Keeper.inside.settings c.self-in-Keeper.inside.ports c.self-in-Keeper.inside.sessions.items c.self-in-Keeper.inside.actors.items c.keep-reply.new.ports keep c.keep-reply.result c.args.self.now.told
           shown.0 shown.1 told;
-      leads = (
+      transition = (
         subst (λ (w : WorldValue). KeepTransition keep w.ports c.keep-reply.new.ports c.keep-reply.result) c.self-in-Keeper.view_is led,
         ap (λ (w : WorldValue). w.actors) c.self-in-Keeper.view_is,
       );

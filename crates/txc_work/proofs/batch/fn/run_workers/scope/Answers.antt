@@ -11,7 +11,7 @@ use Rattle.crossbeam_queue.specs.contracts.array_queue.Doing as Doing
 use Rattle.crossbeam_queue.specs.contracts.array_queue.Turns as Turns
 use Rattle.crossbeam_queue.specs.contracts.array_queue.TurnsTableRuleOptionDoingUnit.TheImpl as turns
 use Rattle.txc_db.proofs.Captured.{closure6_send}
-use Rattle.txc_client.proofs.Crosses.{client_send}
+use Rattle.txc_txn_client.proofs.Crosses.{client_send}
 use Rattle.txc_work.specs.Workers.{IsWorkerOf}
 use Rattle.txc_work.specs.contracts.job.Job as Job
 use Rattle.txc_work.specs.contracts.job.Receipted as Receipted

@@ -1,6 +1,0 @@
-use Rattle.std.proofs.Common.{◌≡◌, ◌++◌, drop}
-use Rattle.auction.specs.Auction.{titles_of}
-use Rattle.auction.proofs.functions.titles.Given as goal
-
-abbrev pub invariant-loop-row : goal.invariant-loop-row
-invariant-loop-row l = l.bytes.items ++ titles_of (drop l.row-index l.rows) ≡ titles_of l.rows

@@ -1,6 +1,0 @@
-use Rattle.std.proofs.Common.{◌≡◌, ◌++◌, drop}
-use Rattle.shop.specs.Shop.{joined_bodies}
-use Rattle.shop.proofs.ShopStraight.give.Given as goal
-
-abbrev pub invariant-loop-row : goal.invariant-loop-row
-invariant-loop-row l = l.list.items ++ joined_bodies (drop l.row-index l.row-items) ≡ l.initial.list.items ++ joined_bodies l.row-items

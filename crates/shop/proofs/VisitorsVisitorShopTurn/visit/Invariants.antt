@@ -1,8 +1,0 @@
-use Rattle.std.proofs.Common.{◌≤◌}
-use Rattle.shop.proofs.VisitorsVisitorShopTurn.visit.Given as goal
-
-abbrev pub invariant-loop-round : goal.invariant-loop-round
-invariant-loop-round g l = record {
-  torn : l.torn ≤ l.round-counter;
-  bought : l.bought ≤ l.round-counter;
-}

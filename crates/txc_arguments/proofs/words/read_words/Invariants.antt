@@ -1,6 +1,0 @@
-use Rattle.std.specs.Prelude.{map, string_bytes}
-use Rattle.txc_arguments.specs.WordsRead.{BeginWithName}
-use Rattle.txc_arguments.proofs.words.read_words.Given as goal
-
-abbrev pub invariant-loop-number : goal.invariant-loop-number
-invariant-loop-number g l = BeginWithName (map string_bytes l.words.items)

@@ -1,7 +1,0 @@
-//! A law of the lines of a batch's script. It is a lemma without code.
-ghost use Rattle.txc_batch.specs.BatchLaws.{NothingIsWrongWithOrders};
-
-/// A line that is an order has no fault.
-pub fn nothing_is_wrong_with_an_order()
-    ensures { NothingIsWrongWithOrders }
-{}

@@ -1,0 +1,2 @@
+pub mod CacheViews
+pub mod Numbers

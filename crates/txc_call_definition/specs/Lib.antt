@@ -1,0 +1,4 @@
+pub mod FixedAsks
+pub mod HeldActivity
+pub mod OneOf
+pub mod Pools

@@ -1,5 +1,0 @@
-use Rattle.std.proofs.Common.{◌-◌}
-use Rattle.txc_carry.proofs.carrying.+carry_range.Given as goal
-
-abbrev pub decreases-carry_range : goal.decreases-carry_range
-decreases-carry_range l = l.last - l.first

@@ -1,9 +1,0 @@
-use Rattle.std.proofs.Common.{◌≡◌}
-use Rattle.txc_carry.specs.Carried.{HasCarried}
-use Rattle.txc_carry.proofs.carrying.carry_tables.Given as goal
-
-abbrev pub invariant-loop-number : goal.invariant-loop-number
-invariant-loop-number l = record {
-  same : l.old ≡ l.initial.old;
-  carried : HasCarried l.old l.initial.new.events l.number 0 l.new;
-}

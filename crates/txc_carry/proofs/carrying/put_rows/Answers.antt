@@ -1,5 +1,0 @@
-use Rattle.txc_carry.proofs.Refusing.{nothing_read}
-use Rattle.txc_carry.proofs.carrying.put_rows.Goals as goal
-
-pub returns-in-Err-clause-refused : goal.returns-in-Err-clause-refused
-returns-in-Err-clause-refused c = nothing_read c.args.new.now c.requires.whole c.requires.tags

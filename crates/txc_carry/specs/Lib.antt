@@ -1,4 +1,0 @@
-pub mod Carried
-pub mod Renewed
-pub mod Rooms
-pub mod Worked

@@ -1,7 +1,0 @@
-//! Lemmas about the definitions. They have no code.
-ghost use Rattle.txc_carry.specs.Worked.{WorkedOrder};
-
-/// The rows before a place, for four rows in two tables.
-pub fn worked_order()
-    ensures { WorkedOrder }
-{}

@@ -1,0 +1,4 @@
+pub mod Carry
+pub mod Renewal
+pub mod Rooms
+pub mod WorkedRows

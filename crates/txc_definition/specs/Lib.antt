@@ -1,4 +1,0 @@
-pub mod Or
-pub mod Pools
-pub mod Running
-pub mod Straight

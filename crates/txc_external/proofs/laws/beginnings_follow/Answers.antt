@@ -1,5 +1,0 @@
-use Rattle.txc_external.proofs.Following
-use Rattle.txc_external.proofs.laws.beginnings_follow.Goals as goal
-
-pub returns : goal.returns
-returns c = Following.beginnings_follow

@@ -1,5 +1,0 @@
-use Rattle.txc_external.proofs.Computing
-use Rattle.txc_external.proofs.laws.cached_is_uncached.Goals as goal
-
-pub returns : goal.returns
-returns c = Computing.cached_is_uncached

@@ -1,5 +1,0 @@
-use Rattle.txc_external.proofs.Following
-use Rattle.txc_external.proofs.laws.pins_show_version_tables.Goals as goal
-
-pub returns : goal.returns
-returns c = Following.pins_show

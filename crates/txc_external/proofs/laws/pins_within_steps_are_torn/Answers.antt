@@ -1,5 +1,0 @@
-use Rattle.txc_external.proofs.Worked
-use Rattle.txc_external.proofs.laws.pins_within_steps_are_torn.Goals as goal
-
-pub returns : goal.returns
-returns c = Worked.pin_within_step

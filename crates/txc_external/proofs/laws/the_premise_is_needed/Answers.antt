@@ -1,5 +1,0 @@
-use Rattle.txc_external.proofs.Worked
-use Rattle.txc_external.proofs.laws.the_premise_is_needed.Goals as goal
-
-pub returns : goal.returns
-returns c = Worked.missing_note

@@ -1,5 +1,0 @@
-use Rattle.txc_external.proofs.Versions
-use Rattle.txc_external.proofs.laws.versions_decide_a_read.Goals as goal
-
-pub returns : goal.returns
-returns c = Versions.found_in_each

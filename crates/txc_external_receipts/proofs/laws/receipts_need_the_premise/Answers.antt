@@ -1,5 +1,0 @@
-use Rattle.txc_external_receipts.proofs.Receipts.{receipts_need}
-use Rattle.txc_external_receipts.proofs.laws.receipts_need_the_premise.Goals as goal
-
-pub returns : goal.returns
-returns c = receipts_need c.the_premise_is_needed.ensures

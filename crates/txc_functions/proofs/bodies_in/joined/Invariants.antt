@@ -1,7 +1,0 @@
-use Rattle.std.proofs.Common.{◌≡◌, ◌++◌, drop}
-use Rattle.txc_functions.specs.Program.{bodies_of}
-use Rattle.txc_functions.proofs.Bodies.{after_commas}
-use Rattle.txc_functions.proofs.bodies_in.joined.Given as goal
-
-abbrev pub invariant-loop-row : goal.invariant-loop-row
-invariant-loop-row l = l.bytes.items ++ after_commas (drop l.row-index l.others) ≡ bodies_of l.rows

@@ -1,5 +1,0 @@
-use Rattle.txc_functions.proofs.WorkedEntries
-use Rattle.txc_functions.proofs.laws.worked_entries.Goals as goal
-
-pub returns : goal.returns
-returns c = WorkedEntries.worked_entries

@@ -1,4 +1,0 @@
-pub mod AnyFunction
-pub mod Program
-pub mod Worked
-pub mod WorkedEntries

@@ -1,6 +1,0 @@
-pub mod Keeping
-pub mod Keeps
-pub mod Refusals
-pub mod Room
-pub mod Stations
-pub mod Tending

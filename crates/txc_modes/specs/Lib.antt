@@ -1,2 +1,0 @@
-pub mod Staffs
-pub mod Modes

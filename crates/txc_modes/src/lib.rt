@@ -1,9 +1,0 @@
-//! Runs of scripts of every kind, with the program's functions: of a node, of a world, and of a batch.
-#![tactic(auto)]
-
-mod running;
-mod staff;
-
-pub use running::run;
-pub use txc_script::{RunFault, Status, exit_of};
-pub use txc_words::OwnFault;

@@ -1,5 +1,0 @@
-use Rattle.txc_play.proofs.NothingWrong.{nothing_wrong}
-use Rattle.txc_play.proofs.laws.nothing_is_wrong_with_a_good_line.Goals as goal
-
-pub returns : goal.returns
-returns c = nothing_wrong

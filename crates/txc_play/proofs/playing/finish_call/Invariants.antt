@@ -1,5 +1,0 @@
-use Rattle.txc_play.proofs.TasksDone.{HasRequested}
-use Rattle.txc_play.proofs.playing.finish_call.Given as goal
-
-abbrev pub invariant-loop : goal.invariant-loop
-invariant-loop g l = HasRequested g.A.App.next l.fn.world l.actor l.world

@@ -1,9 +1,0 @@
-pub mod Tasks
-pub mod TaskSteps
-pub mod TaskTexts
-pub mod TaskLaws
-pub mod WorldFaults
-pub mod WorldScripts
-pub mod WorldRuns
-pub mod Playing
-pub mod FaultLaws

@@ -1,0 +1,15 @@
+pub mod BatchClients
+pub mod BatchFaults
+pub mod BatchLaws
+pub mod BatchRuns
+pub mod BatchScripts
+pub mod BatchStates
+pub mod JobResults
+pub mod OrderEffects
+pub mod Orders
+pub mod OutcomeTexts
+pub mod PlainDatabase
+pub mod PreparedTexts
+pub mod QueuedJobs
+pub mod Rows
+pub mod WorkerFunctions

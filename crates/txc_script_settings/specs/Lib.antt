@@ -1,0 +1,2 @@
+pub mod DocumentSettings
+pub mod Keys

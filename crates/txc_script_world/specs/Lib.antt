@@ -1,0 +1,9 @@
+pub mod FaultLaws
+pub mod TaskLaws
+pub mod TaskParts
+pub mod TaskSteps
+pub mod TaskTexts
+pub mod Tasks
+pub mod WorldFaults
+pub mod WorldRuns
+pub mod WorldScripts

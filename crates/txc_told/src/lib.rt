@@ -1,9 +1,0 @@
-//! Ghost objects of functions, for a caller that runs the functions of its calls itself.
-//!
-//! A function that its caller runs has no object in a registry. The contracts of calls state the answers that
-//! each open function got as the state of such objects. A [`Told`] is these objects. It is zero-sized.
-#![tactic(auto)]
-
-mod told;
-
-pub use told::{AsIdle, AsNew, AsRan, Ran, Reads, Told};

@@ -1,0 +1,6 @@
+pub mod Laws
+pub mod PinLease
+pub mod Ports
+pub mod RoTxn
+pub mod Run
+pub mod Sessions

@@ -1,5 +1,0 @@
-use Rattle.std.proofs.Common.{◌≡◌, All}
-use Rattle.txc_visits.proofs.foundation.Foundation.warm.Given as goal
-
-abbrev pub invariant-loop-left : goal.invariant-loop-left
-invariant-loop-left g l = All (λ node. node.seen.events ≡ l.whole.events) l.left-iterator.rest.items

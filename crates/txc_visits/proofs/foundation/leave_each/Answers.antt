@@ -1,8 +1,0 @@
-use Rattle.std.proofs.Common.{◌≡◌}
-use Rattle.std.proofs.lemmas.List.Elements.{All-push, All-same}
-use Rattle.txc_visits.proofs.foundation.leave_each.Goals as goal
-
-pub loop-node-preserved : goal.loop-node-preserved
-loop-node-preserved g c =
-    All-same (λ left. left.seen.events ≡ g.J.Naming.database_history) _ _ c.in-Ok.ensures.items
-    (All-push (λ left. left.seen.events ≡ g.J.Naming.database_history) _ _ c.loop-node.invariant c.leave.ensures.seen)

@@ -1,5 +1,0 @@
-use Rattle.txc_visits.proofs.warming.warm.Goals as goal
-
-pub begin-requires-clause-is_true : goal.begin-requires-clause-is_true
-begin-requires-clause-is_true g c =
-    c.true_entries_stay.ensures g.A.App.next c.loop.left.seen.history c.args.whole.now.history c.in-Some.entry c.loop.invariant c.in-Some.ensures.is_true

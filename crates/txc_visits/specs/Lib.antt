@@ -1,7 +1,0 @@
-pub mod Guests
-pub mod Histories
-pub mod Plans
-pub mod Sites
-pub mod Successions
-pub mod Tended
-pub mod Warming

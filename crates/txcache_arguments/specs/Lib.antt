@@ -1,0 +1,2 @@
+pub mod ArgumentWords
+pub mod Program

@@ -1,0 +1,4 @@
+pub mod AnyFunction
+pub mod Program
+pub mod WorkedCalls
+pub mod WorkedEntries
