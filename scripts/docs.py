@@ -261,8 +261,8 @@ def readme(text):
         both = [pages[f"{name}, {age}"] for name in ("a plain cache", "the cache")]
         rows += f"| {age} | {' | '.join(f'{it[1]} | {it[2]} | {cost(it) / none:.2f}' for it in both)} |\n"
     start, _, after = text.partition(BUYS)
-    threads = {row[0]: row for row in table_of(shown, "| Pages of | Threads: 1 | 2 | 4 | Processes: 1 | 2 | 4 |")}
-    speeds = [[threads[f"{kind}; pins kept for 50 ms"][at] for at in (1, 3)] for kind in ("two hits", "two calls, and a bid after each page")]
+    threads = {tuple(row[:2]): row for row in table_of(shown, "| Pages of | Shop | Threads: 1 | 2 | 4 | Processes: 1 | 2 | 4 |")}
+    speeds = [[threads[kind, "8 items"][at] for at in (2, 4)] for kind in ("two hits", "two calls, and a bid after each page")]
     speed = "A site reads {} pages of two hits a second on one thread, and {} on four. With a bid after each page it makes {} and {}.".format(*sum(speeds, []))
     text = start + BUYS + rows + re.sub(r"\A(?:\|.*\n)*\n.*\n", f"\n{speed}\n", after)
     taken = cpu.read(ROOT / "docs/gate.tsv")
