@@ -104,7 +104,7 @@ class Looks(unittest.TestCase):
         for self.now in (0.0, 4.0, 11.0):
             it.look()
         self.assertEqual((it.numbers, self.open()), ([2, 3], [False, True, True]))
-        self.assertRaisesRegex(SnapshotLost, "the snapshot 1 is open no more, but 2, 3", it.snapshot, 1)
+        self.assertRaisesRegex(SnapshotLost, "the snapshot 1 is closed; open are 2, 3", it.snapshot, 1)
         it.let_go()
         self.assertEqual(it.numbers, [])
 

@@ -220,7 +220,7 @@ class Keeping(Case):
             cache.store.look = lambda *words, **named: looks.append(1) or (_ for _ in ()).throw(NotInstalled(["no trigger stands on accounts"]))
             self.assertRaises(NotInstalled, self.page, (self.balance, 0))
             self.assertTrue(until(lambda: len(looks) > 4))
-        self.assertEqual(logged.output, ["ERROR:txcache:no page begins until the triggers stand: no trigger stands on accounts"])
+        self.assertEqual(logged.output, ["ERROR:txcache:no page takes a snapshot until the triggers are intact: no trigger stands on accounts"])
 
     def test_notes_are_purged_beside_pages(self):
         cache, purged = self.open(), []

@@ -163,7 +163,7 @@ class Follower:
         for it in self._held:
             if it.number == number:
                 return it.snapshot
-        raise SnapshotLost(f"the snapshot {number} is open no more, but {', '.join(str(it.number) for it in self._held) or 'none'}")
+        raise SnapshotLost(f"the snapshot {number} is closed; open are {', '.join(str(it.number) for it in self._held) or 'none'}")
 
     @property
     def mark(self) -> Any:

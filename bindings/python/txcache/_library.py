@@ -17,7 +17,7 @@ def path():
         found = os.path.join(folder, _NAME)
         if os.path.exists(found):
             return found
-    raise ImportError(f"there is no {_NAME} in {' or '.join(map(os.path.normpath, folders))}: make library first")
+    raise ImportError(f"there is no {_NAME} in {' or '.join(map(os.path.normpath, folders))}: make library first, or name its folder by an absolute path in TXC_LIBRARY")
 
 
 def load(kind=ctypes.CDLL):

@@ -56,7 +56,7 @@ def _beside_pages(cache: "TxCache", bell: Bell, is_due: bool, last: str) -> str:
         pass  # the follower has logged it
     except NotInstalled as error:
         if str(error) != last:
-            LOG.error("no page begins until the triggers stand: %s", error)
+            LOG.error("no page takes a snapshot until the triggers are intact: %s", error)
         return str(error)
     except Exception:
         if not bell.has_ended:
