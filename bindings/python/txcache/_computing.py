@@ -1,4 +1,4 @@
-"""What threads compute: the functions that stand open, the calls that others may wait for, and the word to make a call again."""
+"""The work of threads: the functions that stand open, the calls that others may wait for, and the word to make a call again."""
 
 import threading
 from typing import TYPE_CHECKING, Any, Callable, Dict, List, Optional, Sequence, Set

@@ -84,7 +84,7 @@ def is_write(error: BaseException) -> bool:
 
 
 class Connection:
-    """What stands in the place of a connection: it gives cursors, and refuses all that would leave the snapshot."""
+    """The stand-in for a connection: it gives cursors, and refuses all that would leave the snapshot."""
 
     closed, notices = 0, ()
 

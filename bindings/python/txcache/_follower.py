@@ -14,7 +14,7 @@ AIR_EVERY = 0.1  # seconds: more often the store is not asked whether it wants a
 
 
 class Step(NamedTuple):
-    """What a look found: the snapshot's number, a moment of which it has all commits, and the tags that it is the first to see changed. Where `cold` says
+    """The result of a look: the snapshot's number, a moment of which it has all commits, and the tags that it is the first to see changed. Where `cold` says
     why, nothing is known of what changed, and all that is cached must go."""
 
     number: int
@@ -143,7 +143,7 @@ class Follower:
                 del self._uses[number]
 
     def let_go(self, below: Optional[int] = None) -> None:
-        """Closes the snapshots below a number, or all, whoever uses them. What is cached stays, and the next look follows on."""
+        """Closes the snapshots below a number, or all, also those in use. The cached results stay, and the next look follows on."""
         self._close_if(lambda it: below is None or it.number < below)
 
     def _close_if(self, is_over: Callable[[_Held], bool]) -> None:

@@ -1,4 +1,4 @@
-"""What keys stand on beside arguments: the level of each function, and the tables that each query was found to read.
+"""The parts of keys beside arguments: the level of each function, and the tables that each query was found to read.
 
 What a key asks never changes. So where a function's level rises, or its query is found to read another table, its keys are new, and those of all that
 are known to call it. A `Forms` never changes: one outermost call uses one throughout."""

@@ -1,4 +1,4 @@
-"""What one call of a function reads by cursors: in its snapshot, and asked of the version table before."""
+"""The reads of one call of a function by cursors: in its snapshot, and asked of the version table before."""
 
 from typing import TYPE_CHECKING, Any, Callable, List, Mapping, NoReturn, Optional
 
@@ -15,7 +15,7 @@ INSTEAD = "a cacheable function reads in one snapshot, which ends by itself; wri
 
 
 class Hand:
-    """Runs the statements of one call of a function, until that has returned. What it reads is found by each statement, unless it `is_named`."""
+    """Runs the statements of one call of a function, until that has returned. Its reads are found by each statement, unless it `is_named`."""
 
     __slots__ = "name", "store", "is_over", "is_named", "_has_run", "_ends"
 
@@ -70,7 +70,7 @@ class Hand:
         self._ends = [*(self._ends or ()), end]
 
     def has_returned(self) -> None:
-        """Ends what was opened by `at_end`. What the function gives may read until it is kept, as a queryset does."""
+        """Ends what was opened by `at_end`. Its value may read until it is kept, as a queryset does."""
         while self._ends:
             self._ends.pop()()
 

@@ -51,7 +51,7 @@ class Receipt:
 
 
 class Page:
-    """What is read in a block of `TxCache.read`. Its receipt is there once the block has ended."""
+    """The reads of a block of `TxCache.read`. Its receipt is there once the block has ended."""
 
     # most pages change few of these, and so each begins with its class's
     _frames: Sequence[Frame] = ()  # the functions that stand open
@@ -115,7 +115,7 @@ class Page:
 
     @property
     def receipt(self) -> Optional[Receipt]:
-        """What the page showed, once the block has ended well; else None."""
+        """The receipt of the page, once the block has ended well; else None."""
         if self._end is None:
             return None
         ended, pin, number = self._end

@@ -1,4 +1,4 @@
-"""What `install` writes into a PostgreSQL database, and whether it stands: the schema `txcache`, its notes, and a trigger on each table."""
+"""The objects that `install` makes in a PostgreSQL database, and whether they are intact: the schema `txcache`, its notes, and a trigger on each table."""
 
 import hashlib
 import json
@@ -37,7 +37,7 @@ BEGIN
 END
 """
 
-# What a look asks for, in one statement whose plans the server keeps: the snapshot's numbers, the server's, the number that was purged last, the shape of the
+# The question of a look, in one statement whose plans the server keeps: the snapshot's numbers, the server's, the number that was purged last, the shape of the
 # tables; and the tags of rows that the snapshot sees and one did not that had seen all below `beyond` but those `running`. The server's own processes have
 # other numbers once it has begun anew after one of its processes died; its start time is then as it was.
 _LOOK = """
@@ -370,7 +370,7 @@ class Installer:
             raise
 
     def schema(self, reader: Optional[str]) -> None:
-        """Writes what stands once in a database. What stands already is left alone: tables that snapshots read would be waited for."""
+        """Makes the objects that a database has once. Those that exist are left alone: tables that snapshots read would be waited for."""
         stands = _comment(self._link) == COMMENT and _functions(self._link) == _TEXTS
         self._transaction(("" if stands else _TABLES + _FUNCTIONS) + _STATE)
         if reader and not all(self._link.ask(_MAY_READ, (reader,) * 6)[0]):

@@ -1,4 +1,4 @@
-"""What a cache follows: the snapshots of a database, and what changed between one and the next."""
+"""The database as a cache follows it: the snapshots of a database, and what changed between one and the next."""
 
 from typing import TYPE_CHECKING, Any, FrozenSet, List, NamedTuple, Optional, Protocol, Sequence, Tuple
 

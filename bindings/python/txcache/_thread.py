@@ -14,7 +14,7 @@ LOG = logging.getLogger("txcache")
 
 
 class Bell:
-    """What the thread of a cache waits for beside the time: that something is to be trimmed, or that it is to end."""
+    """The signal that the thread of a cache waits for, beside the time: that something is to be trimmed, or that it is to end."""
 
     def __init__(self) -> None:
         self._event, self.has_ended = threading.Event(), False

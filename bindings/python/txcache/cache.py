@@ -301,7 +301,7 @@ class TxCache:
                 self._trimming.release()
 
     def _rest_or_look(self) -> None:
-        """What the thread does every `refresh` seconds."""
+        """The work of the thread, every `refresh` seconds."""
         now = time.monotonic()
         if now - self._last_page > self.hold:
             self._follower.let_go()

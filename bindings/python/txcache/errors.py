@@ -1,4 +1,4 @@
-"""What the package raises beside the errors of a service's own functions and queries."""
+"""Exceptions of the package, beside the errors of a service's own functions and queries."""
 
 from typing import Iterable
 
@@ -24,7 +24,7 @@ class SnapshotRefused(SnapshotLost):
 
 
 class OutsideSnapshot(TxCacheError, RuntimeError):
-    """What was asked would leave the snapshot of a cacheable function, as a write or a commit does; or the function has returned, or none runs."""
+    """A statement would leave the snapshot of a cacheable function, as a write or a commit does; or the function has returned, or none runs."""
 
 
 class NotSeen(TxCacheError):

@@ -95,7 +95,7 @@ class PostgresStore:
 
     @property
     def settings(self) -> str:
-        """What each transaction of ours sets for itself: where a pooler stands between, the next one has another connection."""
+        """Returns the settings that each transaction makes for itself: where a pooler stands between, the next one has another connection."""
         return (f"SET LOCAL lock_timeout = {max(1, int(self._lock_timeout * 1000))}; "
                 f"SET LOCAL idle_in_transaction_session_timeout = {max(1, int(self._idle_timeout * 1000))}; ")
 

@@ -58,7 +58,7 @@ os.register_at_fork(after_in_child=_count_fork)
 
 
 class Conflict(Refused):
-    """What was read has changed: nothing is committed."""
+    """Another transaction changed the rows that were read: nothing is committed."""
 
 
 class GivenUp(Refused):
@@ -137,7 +137,7 @@ def cacheable(number):
 
 
 class _Function:
-    """What a function asks: its transaction, until it ends."""
+    """The transaction of a function, until the function ends: its queries and calls."""
 
     def __init__(self, transaction):
         self._transaction = transaction

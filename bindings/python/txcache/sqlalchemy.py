@@ -99,7 +99,7 @@ class _Facade(DbConnection):
 
 
 class _Engine(Source):
-    """What SQLAlchemy needs for one store: an engine that opens connections, as SQLAlchemy prepares them, to join snapshots; and one whose connections are
+    """The parts of SQLAlchemy for one store: an engine that opens connections, as SQLAlchemy prepares them, to join snapshots; and one whose connections are
     those of functions."""
 
     def __init__(self, store: Any):

@@ -59,7 +59,7 @@ class _Response:
         self.has_begun = False
 
     def start(self, status: str, headers: List[Tuple[str, str]], exc_info: Any = None) -> Callable[[bytes], Any]:
-        """What the application calls as its `start_response`."""
+        """The `start_response` of the application."""
         if self.has_begun:
             return self._started(status, headers, exc_info)
         if self._head is not None and exc_info is None:
@@ -68,7 +68,7 @@ class _Response:
         return self.write
 
     def write(self, data: bytes) -> None:
-        """What the application may write beside its body: from then on nothing is made again."""
+        """Writes data that the application sends beside its body: from then on nothing is made again."""
         self.begin()
         if self._write is None:
             raise AssertionError("write was called before start_response")

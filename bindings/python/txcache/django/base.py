@@ -45,7 +45,7 @@ class _Facade(Connection):
 
 
 class _OfFunction:
-    """What differs from Django's own wrapper of a database: it opens nothing, and refuses all that writes or would end a transaction."""
+    """The difference from Django's own wrapper of a database: it opens nothing, and refuses all that writes or would end a transaction."""
 
     def __init__(self, settings_dict: Dict[str, Any], alias: str):
         super().__init__(settings_dict, alias)

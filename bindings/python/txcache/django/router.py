@@ -1,4 +1,4 @@
-"""What Django may do over an alias of ours: read, in a function."""
+"""The router: over an alias of this package Django may read, in a function, and do nothing else."""
 
 from typing import Any, Optional
 
