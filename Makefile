@@ -9,6 +9,8 @@
 # make demo [DEMO="--postgres DSN"]: a web shop whose page shows the same parts by this cache and by a plain one, which tears. It wants make library or
 #   make try-library before.
 # make edits [CRATE=NAME]: all wrong bodies, also those that `make prove` leaves out for its time.
+# make mutant NAME=..: one wrong body, and the verifier's message that names its false clause. From nothing it proves the crates below first: of a
+#   low crate, as txc_node, in some five minutes. An unknown name is answered with the nearest ones.
 # make refusals [TEST=NAME]: every allocation of the tests and of the program, refused in its turn.
 # make soak: 3,000,000 lookups through one node that stores no records, and 3,000,000 commits from C through one site that stores no
 #   events, on 512 items and on 100,000, each in a process of a fixed size; and ten minutes of values of up to 256 KiB in a budget of 64 MiB.
@@ -18,12 +20,12 @@ MODE ?=
 
 # A word of the command line that nothing here knows is a slip of the pen.
 GIVEN := $(foreach it,$(.VARIABLES),$(if $(findstring command line,$(origin $(it))),$(it)))
-UNKNOWN := $(filter-out SCRIPT MODE SETTINGS CRATE TEST DEMO JOBS RT_JOBS SEED,$(GIVEN))
+UNKNOWN := $(filter-out SCRIPT MODE SETTINGS CRATE NAME TEST DEMO JOBS RT_JOBS SEED,$(GIVEN))
 ifneq ($(UNKNOWN),)
-$(error there is no $(firstword $(UNKNOWN))=: the words are SCRIPT=, MODE=, SETTINGS=, CRATE=, TEST= and DEMO=)
+$(error there is no $(firstword $(UNKNOWN))=: the words are SCRIPT=, MODE=, SETTINGS=, CRATE=, NAME=, TEST= and DEMO=)
 endif
 
-.PHONY: try run test test-all prove library try-library wheel demo edits refusals soak docs
+.PHONY: try run test test-all prove library try-library wheel demo edits mutant refusals soak docs
 
 try run:
 	@scripts/$@.py $(if $(MODE),--mode "$(MODE)") $(if $(SETTINGS),--settings "$(SETTINGS)") "$(SCRIPT)"
@@ -52,6 +54,9 @@ demo:
 
 edits:
 	scripts/edits.py $(CRATE)
+
+mutant:
+	@scripts/mutant.py $(or $(NAME),"")
 
 refusals:
 	scripts/refusals.sh $(TEST)

@@ -24,7 +24,7 @@ READERS = 7
 
 
 def in_python(kind, seconds, sleep):
-    """How many pages the seven made, in this process."""
+    """Returns the number of pages that the seven made, in this process."""
     sys.path.insert(0, f"{ROOT}/bindings/python")
     from txcache import _library
 

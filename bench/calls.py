@@ -45,7 +45,7 @@ KINDS = {
 
 
 def taken(one, other, part):
-    """What the one takes more than the other, of which it is so many."""
+    """Returns the time that the one takes more than the other, divided by a count."""
     (functions, blocks), (less, fewer) = one, other
     return {it: (functions.get(it, 0) - less.get(it, 0)) / part for it in {*functions, *less}}, (blocks - fewer) / part
 

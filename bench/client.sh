@@ -4,7 +4,7 @@
 # bench/client_bench; it is proved and built in a temporary folder, over what is committed.
 #
 # usage: bench/client.sh [--stored] [--capacities ENTRIES..] [--records RECORDS..] [--times]
-#        bench/client.sh --figures | bench/figures.py
+#        bench/client.sh --figures | scripts/figures.py
 #
 # It prints tables in markdown, of instructions (where valgrind is there) and blocks, and of processor time where `--times` asks
 # for it; with --figures the one of docs/FIGURES.md. bench/client_bench/times.py says what the rows mean.

@@ -4,10 +4,10 @@
 # plain cache at the same nodes, which may show torn pages. The program's source lies in bench/gains_bench; it is proved and
 # built in a temporary folder, over what is committed.
 #
-# usage: bench/gains.sh [--svg FILE] [--sizes QUERIES..]
+# usage: bench/gains.sh [--sizes QUERIES..]
 #
-# It prints plain lines of what each run came to, and then tables in markdown, of instructions too where valgrind is there; FILE
-# gets a picture of them. bench/gains_bench/gains.py says what the columns mean.
+# It prints a plain line for each run, and then tables in markdown, of instructions too if there is valgrind; scripts/figures.py stores
+# them, and scripts/pictures.py draws them. bench/gains_bench/gains.py says what the columns mean.
 set -euo pipefail
 cd "$(dirname "$0")/.."
 

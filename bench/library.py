@@ -34,7 +34,7 @@ KINDS = {
 }
 USES = {
     "library_bench": "txc_stamp txc_tags txc_node anyhow",
-    "library_site": "txc_stamp txc_tags txc_node txc_rows txc_app txc_shared txc_ports txc_caller anyhow",
+    "library_site": "txc_stamp txc_tags txc_node txc_rows txc_db txc_app txc_shared txc_ports txc_caller anyhow",
 }
 NAMES = {"library_bench": "a node's", "library_site": "a site's"}
 CAPACITIES = [1024, 65536]

@@ -84,7 +84,7 @@ def memory(bench):
 
 
 def measured(bench, rows):
-    """What each line shows, with its name."""
+    """Returns the figure of each line, with its name."""
     bench.run(f"rows {rows}", rows)
     bench.run(f"ids {rows}", rows)
     yield "a commit of one put, none dead", longest(bench, "commit_1")

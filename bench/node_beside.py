@@ -1,7 +1,7 @@
 #!/usr/bin/env python3
 """Measures a node's lines by two programs, on the same scripts: processor time, instructions, and misses of a cache of 1 MB.
 
-usage: bench/node_beside.py OLD NEW [--rounds N] [--lines N] | bench/figures.py
+usage: bench/node_beside.py OLD NEW [--rounds N] [--lines N] | scripts/figures.py
 
 OLD and NEW are programs that bench/node_build.sh or scripts/unproved.py made, both in one way. It prints a table in markdown. Each row is a
 workload on a node of so many entries, which the lines that fill it are left out of; each cell has the old program's figure and the new
@@ -16,7 +16,7 @@ import tempfile
 
 import node_count
 
-KINDS = {"hits": "hits", "evictions": "insertions with eviction", "events": "events, and what they closed anew", "mixed": "mixed"}
+KINDS = {"hits": "hits", "evictions": "insertions with eviction", "events": "events, and what they invalidated", "mixed": "mixed"}
 CAPACITIES = [10, 1_024, 65_536]
 COUNTED = 20_000
 

@@ -36,7 +36,7 @@ def count(program, operation, number):
 
 
 def one(program, operation):
-    """What one call takes."""
+    """Returns the time of one call."""
     return (count(program, operation, TIMES) - count(program, operation, 1)) / (TIMES - 1)
 
 

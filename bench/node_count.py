@@ -35,7 +35,7 @@ def script(kind, capacity, lines):
 
 
 def read_costs(path):
-    """What each function took by itself, and with those that it called: instructions and misses by its name."""
+    """Returns the instructions and misses of each function by its name: its own, and those with the functions that it called."""
     names, alone, whole = {}, collections.defaultdict(lambda: [0, 0]), collections.defaultdict(lambda: [0, 0])
     places, function, is_call = [], None, False
     with open(path, encoding="utf-8") as file:
@@ -63,7 +63,7 @@ def read_costs(path):
 
 
 def counts(program, capacity, text, room):
-    """What each function took in one run, by itself and with those that it called."""
+    """Returns the counts of each function in one run: its own, and those with the functions that it called."""
     with open(f"{room}/script", "w", encoding="utf-8") as file:
         file.write(text)
     out = f"{room}/out"

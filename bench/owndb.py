@@ -3,7 +3,8 @@
 
 usage: bench/owndb.py [--library FOLDER] [--prototype FOLDER] [WORD..]     bars whose name has one of the words, else all but the last
        bench/owndb.py [--library FOLDER] --hour SECONDS postgres|sqlite|both    the last; a line of JSON for each store, both at once
-       bench/owndb.py [--library FOLDER] --figures [short] [TABLE..]    tables of what a cache buys and costs: torn, pages, threads, commits, processes, snapshots
+       bench/owndb.py [--library FOLDER] --figures [short] [TABLE..]    tables of what a cache buys and costs: torn, pages, threads, commits, processes, snapshots,
+                                                                       following; this beside a former package if that is named, by --former PACKAGE LIBRARY
 
 It wants a driver of PostgreSQL and initdb, as the package's tests do, and for Redis `apt-get install redis-server python3-redis`; a bar whose other side is not
 there is skipped by name. The figures want memcached, python3-pymemcache, python3-django and python3-django-redis too. The prototype is that of a trial (a folder with txcache_db, which wants python3-psycopg2); it runs over today's library.
@@ -38,7 +39,7 @@ ROWS = 1000
 
 
 class Skipped(Exception):
-    """What a bar is compared with is not there."""
+    """The other side of a bar does not exist on this machine."""
 
 
 class Bar(NamedTuple):
@@ -64,7 +65,8 @@ def link_of(where: str) -> Callable[..., List[Any]]:
 class Room:
     """The databases of a run, each made when it is first wanted."""
 
-    def __init__(self, prototype: str):
+    def __init__(self, prototype: str, former: Sequence[str] = ()):
+        self.former = former
         self.folder, self.prototype, self._count = tempfile.mkdtemp(prefix="owndb-", dir="/tmp"), prototype, 0
         self._servers: Dict[str, Any] = {}
 
@@ -525,6 +527,7 @@ def main() -> int:
     parser = argparse.ArgumentParser(description=__doc__, formatter_class=argparse.RawDescriptionHelpFormatter)
     parser.add_argument("--library", default=os.environ.get("TXC_LIBRARY") or f"{ROOT}/bindings/out")
     parser.add_argument("--prototype", default="")
+    parser.add_argument("--former", nargs=2, metavar=("PACKAGE", "LIBRARY"), default=())
     parser.add_argument("--hour", nargs=2, metavar=("SECONDS", "STORE"))
     parser.add_argument("--figures", action="store_true")
     parser.add_argument("--write", nargs=4, help=argparse.SUPPRESS)
@@ -540,7 +543,7 @@ def main() -> int:
     if given.read:
         read(given.read[0], float(given.read[1]))
         return 0
-    room, failed = Room(given.prototype), False
+    room, failed = Room(given.prototype, given.former), False
     try:
         if given.hour:
             from owndb_bench import hour

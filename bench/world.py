@@ -147,7 +147,7 @@ class Costs:
             return int.from_bytes(file.read(8), "little")
 
     def of(self, make, times):
-        """Of one time, the instructions by function, and the blocks."""
+        """Returns the instructions of one time by function, and the blocks."""
         found = []
         for count in (times, 2 * times):
             script = f"{self.room}/script"

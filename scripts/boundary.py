@@ -13,9 +13,10 @@ usage: scripts/boundary.py [--all] [--proved | --library FOLDER] [--rows FOLDER]
              compiled for it with no proof
 
 The header's sizes, places and numbers are those of the sources; the examples, and the random scripts, are answered byte for byte as
-`txcache` does; the same with every allocation refused in its turn; odd uses; values of up to 1 MiB, many asks and trims; threads that share a site, beside a plain model; work done again and
-again, in memory that does not grow. Then the tests of the bindings for Rust and Python. The last line is `N passed, M failed`; what the machine
-lacks is skipped by its name, and with CI=true in the environment it has failed.
+`txcache` does; the same with every allocation refused in its turn; odd uses; values of up to 1 MiB, many asks and trims; two sites, one over each
+store of rows, that are told the same; threads that share a site, beside a plain model; work done again and again, in memory that does not grow.
+Then the tests of the bindings for Rust and Python. The last line is `N passed, M failed`; what the machine lacks is skipped by its name, and with
+CI=true in the environment it has failed.
 """
 
 import argparse
@@ -33,6 +34,7 @@ import extension
 import library
 import run
 import unproved
+import with_tests
 import worlds
 
 ROOT = os.path.dirname(os.path.dirname(os.path.abspath(__file__)))
@@ -47,21 +49,18 @@ WRAPPED = {
     "tests/odd_site.c": ("malloc", "realloc"),
     "tests/odd_many.c": ("malloc", "realloc"),
     "tests/long.c": ("malloc", "realloc"),
+    "tests/stores.c": ("malloc", "realloc"),
     "tests/flat.c": ("malloc", "realloc", "free"),
 }
 # How many random scripts of each kind are played, by default and with --all.
 SCRIPTS, ALL_SCRIPTS = 200, 2000
 # The programs in C.
 PROGRAMS = ("tests/play.c", "tests/play_site.c", "tests/odd.c", "tests/odd_site.c", "tests/odd_many.c", "tests/long.c", "tests/threads_site.c",
-            "tests/flat.c", "example.c", "page.c", "threads.c")
+            "tests/stores.c", "tests/flat.c", "example.c", "page.c", "threads.c")
+# The stores of a site's rows, by their numbers.
+STORES = ("over SQLite", "over ordered maps")
 # The least share of a site's acts that are between another's call and its end.
 BETWEEN = 1 / 3
-
-
-def seed():
-    """What the random scripts are made of."""
-    tree = subprocess.run(["git", "rev-parse", "HEAD^{tree}"], cwd=ROOT, capture_output=True, text=True, check=False).stdout.strip()
-    return os.environ.get("SEED") or tree or "1"
 
 
 class Trial:
@@ -215,9 +214,9 @@ def libraries(given, room):
     return archives
 
 
-def try_worlds(trial, what, room, said_before, program, played):
-    """Plays a site's scripts, and compares what it says with what `txcache` replies. Where a site said the same before, it is not asked again."""
-    ran = subprocess.run([f"{room}/play_site", f"{room}/worlds"], stdout=subprocess.PIPE, stderr=subprocess.PIPE, text=True)
+def try_worlds(trial, what, room, store, said_before, program, played):
+    """Plays a site's scripts over a store, and compares what it says with what `txcache` replies. Where a site said the same before, it is not asked again."""
+    ran = subprocess.run([f"{room}/play_site", f"{room}/worlds", str(store)], stdout=subprocess.PIPE, stderr=subprocess.PIPE, text=True)
     got = dict(re.findall(r"^== (\S+)\n(.*?)(?=^== |\Z)", ran.stdout, re.M | re.S))
     acts, between = map(int, re.findall(r"\d+", got.pop("acts", "acts 0 between 0")))
     trial.note(f"{what}: {between} of {acts} acts between another's call and its end", between >= BETWEEN * acts > 0)
@@ -275,6 +274,7 @@ def try_c(trial, room, compiler, archives, played, wanted, of_sites):
             continue
         for program in ("odd", "odd_site", "odd_many", "long", "threads_site", "flat"):
             trial.ran(f"{compiler}{name}", [f"{room}/{program}"])
+        trial.ran(f"{compiler}{name}", [f"{room}/stores", str(random.Random(with_tests.seed()).randrange(2**32))])
         for program in ("example", "page", "threads"):
             trial.ran(f"{compiler}: the example {program}{name}", [f"{room}/{program}"])
         ran = subprocess.run([f"{room}/play", f"{room}/list"], stdout=subprocess.PIPE, stderr=subprocess.PIPE, text=True, errors="replace")
@@ -282,7 +282,8 @@ def try_c(trial, room, compiler, archives, played, wanted, of_sites):
         other = [it for *_, mode, file, _ in played if got.get(it := f"{mode} {file}") != wanted[it]]
         trial.note(f"{compiler}{name}: {len(played)} scripts, {len(other)} with other replies", not ran.returncode and not other,
                    ran.stderr + "".join(f"{it}: {got.get(it)!r}, wanted {wanted[it]!r}\n" for it in other[:3]))
-        try_worlds(trial, f"{compiler}{name}", room, *of_sites)
+        for number, store in enumerate(STORES):
+            try_worlds(trial, f"{compiler}{name}, {store}", room, number, *of_sites)
         # under the sanitizers a tenth of them
         try_refusals(trial, room, f"{compiler}{name}", played[::10 if name else 1])
     if "threads" in archives:
@@ -297,26 +298,19 @@ def python_of_tests():
 
 
 def try_bindings(trial, folder, is_all):
-    """The tests and examples of the bindings, over the library of a folder. With --all Python's random ones go on for longer."""
+    """The tests and examples of the bindings, and the blocks of commands that pages show, over the library of a folder. With --all Python's random tests go on
+    for longer."""
     longer = {"TXC_HISTORIES": "500", "TXC_SECONDS": "60"} if is_all else {}
     where = {**longer, **os.environ, "TXC_LIBRARY": folder}
-    if shutil.which("cargo"):
-        with tempfile.TemporaryDirectory(prefix="cargo-") as target:
-            words = ["cargo", "--quiet", "test", "--offline", "--target-dir", target]
-            trial.ran("Rust: tests", words, cwd=f"{ROOT}/bindings/rust", env=where)
-            for example in ("page", "transaction", "threads"):
-                words = ["cargo", "--quiet", "run", "--offline", "--example", example, "--target-dir", target]
-                trial.ran(f"Rust: the example {example}", words, cwd=f"{ROOT}/bindings/rust", env=where)
-    else:
-        trial.skip("Rust, since there is no cargo")
     if os.path.exists(f"{folder}/libtxc_c.so"):
         python = python_of_tests()
         ran = trial.ran("Python: tests", [python, "-m", "unittest", "-q"], cwd=f"{ROOT}/bindings/python", env=where)
         print("".join(f"{it}\n" for it in sorted(set(re.findall(r"^skipped: .*$", ran.stdout, re.M)))), end="")
-        for example in ("example.py", "page.py", "threads.py"):
-            trial.ran(f"Python: {example}", [python, example], cwd=f"{ROOT}/bindings/python", env=where)
+        # Rust's tests, and the examples of all languages
+        ran = trial.ran("pages: blocks of commands", [python, f"{ROOT}/scripts/blocks.py", "--library", folder])
+        print("".join(f"{it}\n" for it in re.findall(r"^(?:skipped|passed): .*$", ran.stdout, re.M)), end="")
     else:
-        trial.skip("Python, since there is no libtxc_c.so")
+        trial.skip("Python, Rust and the blocks of pages, since there is no libtxc_c.so")
 
 
 def try_extension(trial, folder, room):
@@ -354,7 +348,7 @@ def compilers(trial, is_all):
 
 def try_all(trial, given, room):
     """Tries the library and its bindings, with files of its own in the room."""
-    of, count = seed(), given.count or (ALL_SCRIPTS if given.all else SCRIPTS)
+    of, count = with_tests.seed(), given.count or (ALL_SCRIPTS if given.all else SCRIPTS)
     print(f"seed: {of}")
     archives = libraries(given, room)
     played = plays(room, count, of, given.rows)

@@ -8,21 +8,24 @@ from functools import lru_cache
 from pathlib import Path
 from typing import Iterator
 
+import blocks
+import figures
 import pages
 import sources
+import words
 import wrong_bodies
 from sources import ROOT
 
 README = ROOT / "README.md"
 # Those that are written by hand.
-BY_HAND = ["README.md", "CONTRIBUTING.md", *(f"docs/{it}.md" for it in ("ARCHITECTURE", "SCRIPTS", "DECISIONS", "GATE", "CALLING", "EMBEDDING", "BINDINGS", "FIGURES"))]
+BY_HAND = ["README.md", "CONTRIBUTING.md", *(f"docs/{it}.md" for it in ("ARCHITECTURE", "SCRIPTS", "DECISIONS", "GATE", "EMBEDDING", "BINDINGS", "FIGURES"))]
 # How many words CHANGELOG may have of a landing.
 MOST_WORDS_OF_A_LANDING = 80
 # How many words a sentence may have: of a document that is written by hand, and of a source's comment.
 MOST_WORDS_OF_A_SENTENCE = 30
 MOST_WORDS_OF_A_COMMENT = 40
-# What has a plainer word. What is made by script, or a name, may have it.
-NOT_PLAIN = re.compile(r"\b(?:told|purse|foreign record|by a name|comes? to|came to)\b", re.I)
+# A figure of README: a number with a unit of time or of a rate, a share, or a part of many.
+FIGURE = re.compile(r"(?P<number>\d[\d,]*(?:\.\d+)?)\** ?(?:µs|ns|ms|%|a second)|\bof (?P<many>\d{1,3}(?:,\d{3})+)\b")
 # How many lines of code the service may have with which EMBEDDING begins, without blank ones and comments.
 MOST_LINES_OF_FIRST = 120
 # Where a crate uses one of a layer above its own, until that is mended. The second does so only because the first does.
@@ -46,7 +49,7 @@ def made() -> list[Path]:
 
 def documents() -> list[Path]:
     """All of which links are checked."""
-    return [*committed(), *sorted((ROOT / "bindings").glob("*/README.md")), *made()]
+    return [*committed(), *sorted((ROOT / "bindings").glob("**/README.md")), *made()]
 
 
 @lru_cache(None)
@@ -174,11 +177,16 @@ def long_sentences():
                 yield path, f"has a comment with a sentence of {len(sentence.split())} words: {sentence}"
 
 
+def hand_written():
+    """The documents that are written by hand, each with its sentences."""
+    for document in [*committed(), ROOT / "docs/promise.in.md", *sorted((ROOT / "bindings").glob("*/README.md"))]:
+        if document.name != "PROMISE.md" and document.parent.name != "promise":
+            yield document, sentences(document)
+
+
 def plain_words():
-    """No document that is written by hand has a word of those that have a plainer one."""
-    for name in [*BY_HAND, "CHANGELOG.md", "docs/WRONG_BODIES.md", "docs/promise.in.md"]:
-        for said in NOT_PLAIN.findall(re.sub(r"`[^`\n]*`|^@.*", "", prose(ROOT / name), flags=re.M)):
-            yield ROOT / name, f"says `{said}`, which has a plainer word"
+    """No document that is written by hand, and no comment of the bindings, has a word that has a plainer one."""
+    yield from words.faults(hand_written())
 
 
 def comments(path):
@@ -289,12 +297,12 @@ def commands():
 
 
 def toolchain():
-    """The logic that README names is that of this machine's toolchain, where there is one."""
-    named = re.search(r"logic (\w+)", README.read_text())
-    if shutil.which("rt") and named:
-        said = subprocess.run(["rt", "version"], stdout=subprocess.PIPE, text=True).stdout
-        if f"logic {named[1]}" not in said:
-            yield README, f"names the logic {named[1]}, and `rt version` prints `{said.strip()}`"
+    """The logic that README and PROMISE name is that of this machine's toolchain, if it has one."""
+    said = subprocess.run(["rt", "version"], stdout=subprocess.PIPE, text=True).stdout.strip() if shutil.which("rt") else None
+    for document in (README, ROOT / "docs/PROMISE.md"):
+        named = re.search(r"logic (\w{16})", document.read_text())
+        if said and named and f"logic {named[1]}" not in said:
+            yield document, f"names the logic {named[1]}, and `rt version` prints `{said}`"
 
 
 def version():
@@ -335,7 +343,7 @@ def words_of_sources():
 def names():
     """Each file, each function of a type and each name of several words that a document has in backticks is there."""
     types, places = words_of_types(), [f"/{it.as_posix()}" for it in files()]
-    for name in ("../CONTRIBUTING", "ARCHITECTURE", "BINDINGS", "CALLING", "DECISIONS", "EMBEDDING", "FIGURES", "GATE", "WRONG_BODIES"):
+    for name in ("../CONTRIBUTING", "ARCHITECTURE", "BINDINGS", "DECISIONS", "EMBEDDING", "FIGURES", "GATE", "WRONG_BODIES"):
         document = (ROOT / f"docs/{name}.md").resolve()
         for said in re.findall(r"`([^`\n]+)`", prose(document)):
             of_type = re.fullmatch(r"([A-Z]\w*)::\{?(\w+(?:, \w+)*)\}?", said)
@@ -350,15 +358,6 @@ def names():
                 yield document, f"names `{said}`, which is not there"
 
 
-def calls():
-    """Each call that a table of CALLING has is one of the libraries."""
-    document = ROOT / "docs/CALLING.md"
-    there = {call.name for crate in sources.documented() for call in sources.public_api(crate)[1]}
-    for name in re.findall(r"^\| `(\w+)` \|", prose(document), re.M):
-        if name not in there:
-            yield document, f"has the call `{name}`, which is not there"
-
-
 def decided():
     """Each entry of DECISIONS begins with its claim in bold, and says what was rejected."""
     document = ROOT / "docs/DECISIONS.md"
@@ -369,13 +368,37 @@ def decided():
 
 
 def measured():
-    """Above each table of FIGURES one line says when it was measured, by what, and on which machine."""
-    document = ROOT / "docs/FIGURES.md"
-    above = ""
-    for block in re.split(r"\n\s*\n", prose(document)):
-        if block.startswith("|") and not re.search(r"^(?:.*\. )?Measured (?:on|until) \d{4}-\d\d-\d\d by .*, on \d+ cores\b.*$", above, re.M):
-            yield document, f"has a table with no line of its day, command and machine: {block.partition(chr(10))[0]}"
-        above = block
+    """Each table of FIGURES is made from a file of bench/results/ that says when, by what and where it was measured; FIGURES shows or links each file."""
+    text = figures.FIGURES.read_text()
+    made = {it[0].strip() for it in figures.PLACE.finditer(text)}
+    for block in re.split(r"\n\s*\n", text):
+        if block.startswith("|") and not any(block.strip() in it for it in made):
+            yield figures.FIGURES, f"has a table that no file of bench/results makes: {block.partition(chr(10))[0]}"
+    for name in figures.unnamed(text):
+        yield figures.FIGURES, f"neither shows bench/results/{name}.tsv nor links to it"
+    for name in figures.names():
+        try:
+            figures.read(name)
+        except figures.BadResult as error:
+            yield figures.FIGURES, f"can't be made: {error}"
+
+
+def quoted_figures():
+    """Each figure that a comment of a document names is that of its result; README has such a comment for each figure."""
+    for document in [*committed(), *sorted((ROOT / "bindings").glob("*/README.md"))]:
+        for comment, before in figures.quoted(document.read_text()):
+            if fault := figures.fault(comment, before):
+                yield document, fault
+    for line in prose(README).split("\n"):
+        for shown in FIGURE.finditer(line) if not line.startswith("    ") else ():
+            if not re.match(r"[^|\d]*<!-- figure: ", line[shown.end():]):
+                yield README, f"has the figure `{shown[0]}`, and no comment names its cell of FIGURES: {line[:60]}"
+
+
+def run_as_shown():
+    """Each block of commands that a page shows says how it is run (scripts/blocks.py)."""
+    for file, said in blocks.check():
+        yield ROOT / file, said
 
 
 def first():
@@ -408,7 +431,7 @@ def faults():
     """What the documents claim that is not so, each as a line of text."""
     found = []
     checks = (links, paths, counted, landings, long_sentences, plain_words, layered, promised, help_shown, settings, sessions, quoted, commands, toolchain, version, names,
-              calls, decided, measured, first, meanings)
+              decided, measured, quoted_figures, run_as_shown, first, meanings)
     for check in checks:
         found += [f"{document.relative_to(ROOT)} {said}" for document, said in check()]
     return found

@@ -6,17 +6,19 @@ In docs/out/, which git does not keep:
   crates/              a page of each crate, from its src/ and specs/ (scripts/pages.py)
   WRONG_BODIES.md      the lists of all wrong bodies, by crate
   EXAMPLES.md          examples/, with the replies beside the lines
+  PROOFS.md            the proofs that other crates use
+  TOOLS.md             the files of scripts/ and bench/, each with its first sentence
 
 In files that git keeps:
 
   PROMISE.md, promise/ from the crates' src/ and specs/, and docs/promise.in.md (scripts/promise.py)
-  ../README.md         what a page buys and costs, from FIGURES.md, and how long commands take, from docs/gate.tsv
-  ../CONTRIBUTING.md   the tables of scripts/ and bench/, from the first sentence of each file
-  ARCHITECTURE.md      the tables of crates, from crates.txt and the first sentence of each crate; the table of proofs that other crates use
+  pictures/            by scripts/pictures.py, which also puts each one into the pages that name it
+  FIGURES.md           its tables, from bench/results/ (scripts/figures.py)
+  ../README.md         how long the gate takes, from docs/gate.tsv; the same in CONTRIBUTING.md and SCRIPTS.md of other commands
+  ARCHITECTURE.md      the tables of crates, from crates.txt and the first sentence of each crate
   GATE.md              the table of what the gate takes, from docs/gate.tsv
   SCRIPTS.md           how its lines are written, from the tables by which they are read (scripts/lines.py); the session of a world has to
                        be that of its script
-  CALLING.md           its code, from the tests
   EMBEDDING.md         its code, from tests/txc_tests/src/first.rt.in, the shop and the auction
 
 usage: docs.py [--check]      --check writes docs/out/ alone, and ends with 1 if a file is not what would be written, or if what
@@ -26,7 +28,7 @@ usage: docs.py [--check]      --check writes docs/out/ alone, and ends with 1 if
 import re, shutil, sys
 from pathlib import Path
 
-import claims, cpu, lines, pages, promise, run, sources, wrong_bodies
+import claims, cpu, figures, lines, pages, pictures, promise, run, sources, wrong_bodies
 from sources import ROOT, crates
 
 LISTS = """# All wrong bodies, by crate
@@ -45,8 +47,20 @@ one with its replies. Those of mode world end in `.txw`; where a file beside one
 SESSION = "### A world, line by line"
 # Of more commands in a row than this, only the first and the last are shown.
 MOST_SHOWN = 12
-PROOFS = "| Module | Says | Used by |\n|---|---|---|\n"
-BUYS = "| Pages may be so old | Plain cache: hits | Torn | Cost | This cache: hits | Torn | Cost |\n|---|---|---|---|---|---|---|\n"
+TOOLS = """# Scripts and benchmarks
+
+<!-- Made by `make docs` from the first sentence of each file. -->
+"""
+PROOFS = """# Proofs that other crates use
+
+<!-- Made by `make docs` from the sources of the crates and the tests. -->
+
+A change of one of these modules proves the crates again that use it. Left out are `proofs/Offered.antt`, and `TheSendSync`, which the prover
+makes for each type that may go to threads.
+
+| Module | Is about | Used by |
+|---|---|---|
+"""
 TAKES = "| Crate | Proof | By the clock | Began at minute | Peak, GB | Built | Wrong bodies |\n|---|---|---|---|---|---|---|\n"
 
 
@@ -121,7 +135,7 @@ def check_session(text):
 
 def scripts(text):
     check_session(text)
-    return lines.written(text)
+    return minutes(lines.written(text))
 
 
 def examples():
@@ -133,7 +147,7 @@ def examples():
     return text + "".join(f"- `{it.name}`\n" for it in sorted(folder.glob("worlds/*.txw")))
 
 
-def calling(text):
+def quoting(text):
     """Fills each block that is headed by a file with what the file has before its tests, its imports too; or with those of its
     definitions that the head names."""
 
@@ -189,12 +203,15 @@ def crate_tables() -> str:
 
 
 def architecture(text):
-    text = fill(text, "crates", crate_tables())
-    start, _, after = text.partition(PROOFS)
+    return fill(text, "crates", crate_tables())
+
+
+def proofs() -> str:
+    """The table of the proofs that other crates use."""
     rows = ""
     for (crate, module), users in sorted(used_proofs().items()):
-        rows += f"| `{crate}`: `proofs/{module.replace('.', '/')}.antt` | {says(crate, module)} | {', '.join(f'`{it}`' for it in sorted(users))} |\n"
-    return start + PROOFS + rows + re.sub(r"^(?:\|.*\n)*", "", after)
+        rows += f"| `{crate}`: `proofs/{module.replace('.', '/')}.antt` | {says(crate, module)} | {listed(sorted(users))} |\n"
+    return PROOFS + rows
 
 
 def first_sentence(file: Path) -> str:
@@ -209,12 +226,13 @@ def first_sentence(file: Path) -> str:
     return said if len(said.split()) <= claims.MOST_WORDS_OF_A_SENTENCE else re.split(r"[:;] ", said)[0]
 
 
-def contributing(text):
-    """Fills the tables of scripts/ and bench/."""
+def tools() -> str:
+    """The tables of scripts/ and bench/."""
+    text = TOOLS
     for folder in ("scripts", "bench"):
         files = sorted(it for it in (ROOT / folder).iterdir() if it.suffix in (".py", ".sh", ".c"))
         rows = "".join(f"| `{it.name}` | {first_sentence(it)} |\n" for it in files)
-        text = fill(text, folder, f"| File of `{folder}/` | Does |\n|---|---|\n{rows}")
+        text += f"\n## {folder}/\n\n| File | Does |\n|---|---|\n{rows}"
     return text
 
 
@@ -244,45 +262,35 @@ def gate(text):
     return start + TAKES + rows + re.sub(r"^(?:\|.*\n)*", "", after)
 
 
-def table_of(text, head):
-    """The rows of the table with this head, each as its cells."""
-    rows = text.partition(f"\n{head}\n")[2].split("\n")[1:]
-    return [[it.strip() for it in row.strip("|").split("|")] for row in rows[:next(n for n, it in enumerate(rows) if not it.startswith("|"))]]
-
-
-def readme(text):
-    """Fills what a page buys and costs, from FIGURES, and how long the gate, the program and the tests take, from gate.tsv."""
-    shown = (ROOT / "docs/FIGURES.md").read_text()
-    pages = {row[0]: row for row in table_of(shown, "| Pages, and how old they may be | Hits | Torn | 1 query | 10 queries | 60 queries |")}
-    cost = lambda row: int(row[4].replace(",", ""))
-    none = cost(pages["no cache"])
-    rows = ""
-    for age in ("1 s", "5 s", "30 s"):
-        both = [pages[f"{name}, {age}"] for name in ("a plain cache", "the cache")]
-        rows += f"| {age} | {' | '.join(f'{it[1]} | {it[2]} | {cost(it) / none:.2f}' for it in both)} |\n"
-    start, _, after = text.partition(BUYS)
-    threads = {tuple(row[:2]): row for row in table_of(shown, "| Pages of | Shop | Threads: 1 | 2 | 4 | Processes: 1 | 2 | 4 |")}
-    speeds = [[threads[kind, "8 items"][at] for at in (2, 4)] for kind in ("two hits", "two calls, and a bid after each page")]
-    speed = "A site reads {} pages of two hits a second on one thread, and {} on four. With a bid after each page it makes {} and {}.".format(*sum(speeds, []))
-    text = start + BUYS + rows + re.sub(r"\A(?:\|.*\n)*\n.*\n", f"\n{speed}\n", after)
+def minutes(text):
+    """Fills how long the gate, the program and the tests take, from gate.tsv."""
     taken = cpu.read(ROOT / "docs/gate.tsv")
     tests = sum(it.cpu for it in taken if it.kind == "tests")
+    clock = next(it.clock for it in taken if it.kind == "all")
     text = re.sub(r"the proved program: \d+ minutes of one core", f"the proved program: {run.minutes()} minutes of one core", text)
     text = re.sub(r"unproved: \d+ minutes of one core", f"unproved: {tests / 60:.0f} minutes of one core", text)
-    return re.sub(r"the gate: \d+ minutes", f"the gate: {next(it.clock for it in taken if it.kind == 'all') / 60:.0f} minutes", text)
+    return re.sub(r"the gate: \d+ minutes", f"the gate: {clock / 60:.0f} minutes", text)
 
 
 def written() -> dict[Path, str]:
     """Each file of git that is made by script, or has parts that are, beside its text."""
-    made = {"docs/SCRIPTS.md": scripts, "docs/CALLING.md": calling, "docs/EMBEDDING.md": calling, "docs/ARCHITECTURE.md": architecture,
-            "docs/GATE.md": gate, "README.md": readme, "CONTRIBUTING.md": contributing}
+    made = {"docs/SCRIPTS.md": scripts, "docs/EMBEDDING.md": quoting, "docs/ARCHITECTURE.md": architecture,
+            "docs/GATE.md": gate, "README.md": minutes, "CONTRIBUTING.md": minutes}
     return {**{ROOT / name: make((ROOT / name).read_text()) for name, make in made.items()}, **promise.written()}
+
+
+def all_written() -> dict[Path, str]:
+    """The same with the tables of FIGURES, and with the pictures, each also in the pages that name it."""
+    texts = {figures.FIGURES: figures.fill(figures.FIGURES.read_text()), ROOT / "docs/CONCEPTS.md": (ROOT / "docs/CONCEPTS.md").read_text(), **written()}
+    return {**{path: pictures.fill(text, path) for path, text in texts.items()}, **pictures.written()}
 
 
 def make_pages():
     """Makes docs/out/ anew."""
     shutil.rmtree(pages.OUT, ignore_errors=True)
-    for path, text in {**pages.written(), pages.OUT / "WRONG_BODIES.md": lists_of_wrong_bodies(), pages.OUT / "EXAMPLES.md": examples()}.items():
+    made = {**pages.written(), pages.OUT / "WRONG_BODIES.md": lists_of_wrong_bodies(), pages.OUT / "EXAMPLES.md": examples(),
+              pages.OUT / "PROOFS.md": proofs(), pages.OUT / "TOOLS.md": tools()}
+    for path, text in made.items():
         path.parent.mkdir(parents=True, exist_ok=True)
         path.write_text(text)
 
@@ -293,13 +301,14 @@ def main():
         print(*faults, sep="\n", file=sys.stderr)
         sys.exit(2)
     make_pages()
-    texts = written()
+    texts = all_written()
     for path, text in texts.items():
         if not is_check:
+            path.parent.mkdir(exist_ok=True)
             path.write_text(text)
         elif not path.is_file() or path.read_text() != text:
             sys.exit(f"{path.relative_to(ROOT)} is not what scripts/docs.py writes: run `make docs`")
-    for path in sorted({*promise.FOLDER.glob("*.md")} - set(texts)):
+    for path in sorted({*promise.FOLDER.glob("*.md"), *pictures.FOLDER.glob("*")} - set(texts)):
         if is_check:
             sys.exit(f"{path.relative_to(ROOT)} is made no more: run `make docs`")
         path.unlink()

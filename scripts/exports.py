@@ -19,7 +19,8 @@ CONST = re.compile(r"^pub const (\w+): \w+ = ([\d_]+);$", re.M)
 NUMBERS = {"u8": (1, "uint8_t"), "bool": (1, "bool"), "u32": (4, "uint32_t"), "u64": (8, "uint64_t"), "usize": (8, "size_t"), "*mut u8": (8, "void *")}
 # The limits that the header repeats, with the crates of the constants that they are, and those of another name.
 LIMITS = {"LAST_FUNCTION": "txc_tags", "MAX_ARGS": "txc_tags", "LAST_TABLE": "txc_tags", "LAST_STAMP": "txc_stamp", "MAX_EVENTS": "txc_stream",
-          "MAX_VALUE_LEN": "txc_node", "MAX_ASKS": "txc_app", "MAX_CAPACITY": "txc_node", "MAX_RECENT": "txc_node", "MAX_OPEN": "txc_c", "ABI": "txc_c"}
+          "MAX_VALUE_LEN": "txc_node", "MAX_ASKS": "txc_app", "MAX_CAPACITY": "txc_node", "MAX_RECENT": "txc_node", "MAX_OPEN": "txc_c", "STORE_SQL": "txc_c",
+          "STORE_PLAIN": "txc_c", "ABI": "txc_c"}
 OTHER_NAMES = {"LAST_STAMP": "MOST_STAMP", "MAX_EVENTS": "MAX_CAPACITY", "MAX_VALUE_LEN": "MOST_VALUE_LEN", "MAX_ASKS": "MOST_ASKS",
                "MAX_CAPACITY": "MOST_CAPACITY"}
 

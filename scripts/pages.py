@@ -9,6 +9,8 @@ from sources import ROOT
 OUT = ROOT / "docs/out"
 FOLDER = OUT / "crates"
 HEAD = "\n[How to read it](README.md#a-page).\n"
+# The crates whose pages show a caller, which is a test.
+CALLERS = {"txc_node": "base", "txc_db": "db", "txc_client": "client/clients", "txc_batch": "batch/batch"}
 
 
 def anchor_of(call):
@@ -102,6 +104,16 @@ def word_entries(words, crate):
     return text + words_line([it for word in words for it in word.uses if it not in words], crate)
 
 
+def caller(crate):
+    """How another crate calls this one: the caller among the tests, without its test."""
+    if crate not in CALLERS:
+        return ""
+    path = ROOT / f"tests/txc_tests/src/{CALLERS[crate]}/calling.rt.in"
+    lines = [it for it in path.read_text().partition("\n#[test]")[0].split("\n") if not it.startswith("//!")]
+    link = f"[{path.relative_to(ROOT)}](../../../{path.relative_to(ROOT)})"
+    return f"## A caller\n\nOf {link}:\n\n" + fenced("\n".join(lines).strip(), "rust")
+
+
 def page(crate):
     """The page of a crate; none where it hands out nothing and defines no word of a public clause."""
     types, calls = sources.public_api(crate)
@@ -109,7 +121,7 @@ def page(crate):
     words, promised = [it for it in defined if it not in homes()], [it for it in defined if it in homes()]
     if not types and not calls and not defined:
         return None
-    text = f"# `{crate}`\n\n{sources.purpose(crate)}\n{HEAD}\n"
+    text = f"# `{crate}`\n\n{sources.purpose(crate)}\n{HEAD}\n{caller(crate)}"
     if types or calls:
         text += "## Types and calls\n\n"
     for kind in types:

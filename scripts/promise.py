@@ -4,10 +4,12 @@ sentences stand in docs/promise.in.md. Each name in them has to exist. Lines of 
   @clauses CRATE CALL NAME..   clauses of a public call, all of them where none is named
   @types CRATE/FILE/NAME..     types that clauses name, shown with no definition below them
   @elsewhere CRATE/FILE/NAME.. types that the meaning of the clauses does not depend on, which no page shows
+  @quote CRATE/FILE/NAME..     definitions that another page has with all that they use, quoted without those
   @definitions                 the definitions of the clauses above it that no page has shown yet, and an index of all of them
   @signs                       the signs and words that the page uses, or on their own page all of them
   @page NAME TITLE             begins docs/promise/NAME.md
-  @promises                    of each page of a promise its first paragraph, with a link
+  @promises                    a row of each page of a promise: its first paragraph, and the points with which FACTS begin. The page itself
+                               has a link to that table in their place
 """
 import os
 import re
@@ -23,9 +25,12 @@ HEADLINE = "PROMISE.md"
 SIGNS_PAGE = "promise/signs.md"
 MADE = "<!-- Made by `make docs` from docs/promise.in.md and the crates. -->"
 # What stands in backticks and is a sign of a clause, or a part of one, is explained where it stands.
-SIGNS = re.compile(r"[^\w:]|^(?:result|record|data|abbrev|unfoldable|now|A|requires|Ok|Err|Result)$")
+SIGNS = re.compile(r"[^\w:]|^(?:result|record|data|abbrev|unfoldable|now|A|J|requires|Ok|Err|Result)$")
 BELOW = "## Definitions\n\nWhat an earlier page has shown is not shown again: the index links to it.\n\n"
-HEAD_OF_SIGNS = "| Sign or word | Says |\n|---|---|\n"
+HEAD_OF_SIGNS = "| Sign or word | Meaning |\n|---|---|\n"
+# The points of a promise's page that the table of all promises has.
+FACTS = ("Premises", "Only tested", "Gap")
+TABLE = "8-all-promises"
 
 
 def anchor(word):
@@ -58,6 +63,7 @@ class Page:
     def __init__(self, book, name, title):
         self.book, self.name, self.title = book, name, title
         self.lines, self.roots, self.shallow, self.elsewhere, self.shown, self.texts = [], [], [], [], [], []
+        self.facts = {}
 
     @property
     def number(self):
@@ -84,6 +90,12 @@ class Page:
         more = f"; {rest} more {'clauses stand' if rest > 1 else 'clause stands'} there" if rest else ""
         link = self.link(f"`{path}`", source_of(call))
         return f"{link}, of `{crate}`{more}:\n\n" + pages.fenced(call.text(wanted or None), "rust").rstrip("\n") + "\n"
+
+    def quote(self, keys):
+        parts = [key.split("/") for key in keys]
+        words = [sources.spec_file(crate, file)[name] for crate, file, name in parts]
+        self.texts += [(it.name, it.shown, it.scope) for it in words]
+        return pages.fenced("\n\n".join(it.code for it in words), "text").rstrip("\n") + "\n"
 
     def show_types(self, keys):
         types = [*map(word_of, keys)]
@@ -166,10 +178,18 @@ class Book:
     def write(self, name, title, text):
         page = Page(self, name, title)
         self.pages.append(page)
+        facts = "|".join(FACTS)
+        for fact in re.findall(rf"(?m)^- ((?:{facts}): .*(?:\n  .*)*)\n", text):
+            head, _, said = " ".join(fact.split()).partition(": ")
+            page.facts[head] = said.rstrip(".")
+        link = f"Premises, tests and gaps: {page.link('all promises', HEADLINE, TABLE)}.\n"
+        text = re.sub(rf"(?m)^(?:- (?:{facts}): .*(?:\n  .*)*\n)+", link, text)
         for line in text.strip().split("\n"):
             if line.startswith("@clauses "):
                 crate, path, *wanted = line.split()[1:]
                 page.lines.append(page.show_clauses(crate, path, wanted))
+            elif line.startswith("@quote "):
+                page.lines.append(page.quote(line.split()[1:]))
             elif line.startswith("@types "):
                 page.show_types(line.split()[1:])
             elif line.startswith("@elsewhere "):
@@ -180,12 +200,12 @@ class Book:
                 page.lines.append(line)
 
     def promises(self, here):
-        """Of each page of a promise its title and its first paragraph."""
-        text = ""
+        """A row of each page of a promise."""
+        text = f"| Promise | {' | '.join(FACTS)} |\n|---|{'---|' * len(FACTS)}\n"
         for page in self.pages:
             if page.number:
-                first = "\n".join(page.lines).partition("\n\n")[0].replace("\n", "\n   ")
-                text += f"{page.number}{here.link(page.title, page.name)}. {first}\n"
+                first = " ".join("\n".join(page.lines).partition("\n\n")[0].split())
+                text += f"| {page.number}{here.link(page.title, page.name)}. {first} | {' | '.join(page.facts[it] for it in FACTS)} |\n"
         return text.rstrip()
 
 

@@ -24,7 +24,8 @@ import unproved
 import with_tests
 from script_files import MODES, settings_of
 
-# Tests that count to a large limit, and those of the first service: they do not begin anew where memory is refused on the way.
+# Tests that count to a large limit, and those of the first service: they do not begin anew where memory is refused on the way. And those of many
+# random scripts: what they do is done in a few scripts too.
 LEFT_OUT = {
     "txc_tests client::clients::refusals::a_client_needs_a_pass_of_each_node",
     "txc_tests client::clients::refusals::clients_are_refused_at_limits",
@@ -35,6 +36,8 @@ LEFT_OUT = {
     "txc_tests world::world::a_reader_that_never_ends",
     "txc_tests db::db::long::an_unstored_history_goes_on_where_a_stored_one_ends",
     "txc_tests db::pins::shared::users_and_pins_have_a_limit",
+    "txc_tests db::stores::databases_answer_random_scripts_alike",
+    "txc_tests db::stores::stores_answer_random_scripts_alike",
     "txc_tests txn::shared::locked::passes_have_a_limit",
 }
 

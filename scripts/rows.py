@@ -44,6 +44,7 @@ LOOPS = {
         "db/db/locked.rt": ["for script in scripts {"],
         "db/pins/shared.rt": ["for script in scripts {"],
         "db/rows.rt": ["for script in scripts {"],
+        "db/stores.rt": ["for number in 0..scripts {"],
         "txn/shared/locked.rt": ["for script in scripts {"],
         "txn/transactions.rt": ["for script in SCRIPTS {", "for row in ALL_REFUSALS {", "for lines in 0..=IN_A_CALL.lines().count() {"],
     },

@@ -6,6 +6,7 @@ usage: [JOBS=N] scripts/test.py [--all] [CRATE..]
        [JOBS=N] scripts/test.py --gate | --proved [CRATE..]
        scripts/test.py --fmt
   CRATE     runs the tests of these crates alone
+  SEED      (of the environment) what the random scripts are made of, by default the hash of the committed tree: it is printed
   JOBS      how many crates are compiled and run side by side, by default one a core (3.5 GB each, and to prove 8)
   --all     tries the library for callers in all ways, and not in those alone for which the gate has time. Where all passes, and no
             crate is named, that is written down (scripts/callers.py)
@@ -86,7 +87,7 @@ def try_bindings(room: str, _: str) -> Came:
     ran = told([sys.executable, f"{with_tests.ROOT}/scripts/boundary.py", *words], room)
     counts = re.search(r"^(\d+) passed, (\d+) failed$", ran.stdout, re.M)
     failed = re.findall(r"^FAILED: (.*)$", ran.stdout, re.M) or ["(they did not run to their end)"] * bool(ran.returncode)
-    print("".join(f"{it}\n" for it in re.findall(r"^(?:skipped|seed): .*$", ran.stdout, re.M)), end="")
+    print("".join(f"{it}\n" for it in re.findall(r"^skipped: .*$", ran.stdout, re.M)), end="")
     return int(counts[1]) if counts else 0, failed, ran.stdout
 
 
@@ -150,6 +151,9 @@ def main() -> None:
         if "--proved" in flags:
             prepare_proofs(room, [*wanted])
         else:
+            seed = with_tests.seed()
+            print(f"seed: {seed}", flush=True)
+            with_tests.draw(room, seed)
             unproved.copy_of_kit(f"{room}/kit", OPTIMISES.format(kit=unproved.kit()))
         passed, failures = tried(room, wanted)
         failures += len(wrong)

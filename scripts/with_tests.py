@@ -5,13 +5,18 @@ import glob
 import os
 import re
 import shutil
+import subprocess
 import sys
+import zlib
 
 ROOT = os.path.dirname(os.path.dirname(os.path.abspath(__file__)))
 
 
 # The module of the tests that is tried, and not proved: the service that docs/EMBEDDING.md begins with.
 UNPROVED = "txc_tests/src/first"
+
+# The module whose random scripts are drawn from a number that stands there.
+DRAWN = "txc_tests/src/db/stores"
 
 
 def lines() -> dict[str, str]:
@@ -72,6 +77,17 @@ def replace(file: str, old: str, new: str) -> None:
         sys.exit(f"{file} has no {old!r}")
     with open(file, "w", encoding="utf-8") as it:
         it.write(text.replace(old, new))
+
+
+def seed() -> str:
+    """Returns what random scripts are made of: SEED of the environment, or the hash of the committed tree."""
+    tree = subprocess.run(["git", "rev-parse", "HEAD^{tree}"], cwd=ROOT, capture_output=True, text=True, check=False).stdout.strip()
+    return os.environ.get("SEED") or tree or "1"
+
+
+def draw(room: str, seed: str) -> None:
+    """Has the random scripts of the copy drawn from this text."""
+    replace(f"{room}/crates/{DRAWN}.rt", "SEED: u64 = 1;", f"SEED: u64 = {zlib.crc32(seed.encode())};")
 
 
 def leave_out_unproved(room: str) -> None:

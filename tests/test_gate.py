@@ -68,6 +68,7 @@ class Gate(unittest.TestCase):
         self.write("repository/crates/low/wrong-bodies/lib.edits", EDIT.format("1"))
         self.write("repository/tests/crates.txt.in", "txc_tests: low\n")
         self.write("repository/tests/txc_tests/src/lib.rt.in", "#[cfg(test)]\nmod first;\n#[cfg(test)]\nmod second;\n")
+        self.write("repository/tests/txc_tests/src/db/stores.rt.in", "const SEED: u64 = 1;\n")
         self.write("repository/tests/txc_tests/src/first.rt.in", "//! First.\n\nfn main() {}\n\n#[test]\nfn one() {}\n")
         self.write("repository/tests/txc_tests/src/second.rt.in", "#[test]\nfn two() {}\n")
         for name in ("rt", "rtlib.py", "rattle"):

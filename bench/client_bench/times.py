@@ -21,7 +21,7 @@ node is large, times of both look-ups at the plain node wait for memory, which i
 times may be below 0.
 
 With --figures it prints the one table of docs/FIGURES.md, below a line with the day, the machine and the command: pipe it to
-bench/figures.py.
+scripts/figures.py.
 """
 
 import argparse
@@ -46,7 +46,7 @@ ROUNDS = 7
 
 
 class Operation(NamedTuple):
-    """What the program does so many times for one line, each of so many calls."""
+    """An operation that the program repeats for one line, each time with some calls."""
 
     text: str
     times: int
@@ -102,7 +102,7 @@ class Run:
         self.process = subprocess.Popen(words, stdin=subprocess.PIPE, stdout=subprocess.PIPE, text=True, env=environment)
 
     def obey(self, line, wanted=None):
-        """What the program answers to the line."""
+        """Returns the program's reply to the line."""
         self.process.stdin.write(f"{line}\n")
         self.process.stdin.flush()
         answer = self.process.stdout.readline()
@@ -116,7 +116,7 @@ class Run:
         return self.read() - before
 
     def begin(self):
-        """What is measured begins."""
+        """Begins the measurement."""
 
     def close(self):
         self.process.stdin.close()
@@ -184,7 +184,7 @@ def fill(run, capacity, records):
 
 
 def prepare(run, name, times):
-    """What has to be there before the operation runs so many times."""
+    """Makes the records that the operation needs to run so many times."""
     if name == "nested":
         # so that the node has the inner calls
         run.obey(f"nested {GROUPS // CALLS}", GROUPS)
@@ -196,7 +196,7 @@ def prepare(run, name, times):
 
 
 def once(run, name, operation):
-    """What one call of the operation takes, with what is to be taken off."""
+    """Returns the time of one call of the operation, with the time that is to be taken off."""
     prepare(run, name, operation.times)
     calls = operation.times * operation.each
     before = run.obey("records 0") if operation.records else 0
@@ -217,7 +217,7 @@ def measured(run, operations, spent):
 
 
 def costs(run, capacity, records):
-    """How many records there are, and what one call of each operation takes."""
+    """Returns the number of records, and the time of one call of each operation."""
     there = fill(run, capacity, records)
     run.begin()
     spent = {}
@@ -245,14 +245,14 @@ def table(title, columns, parts):
 
 
 def column(program, kind, capacity, records, is_stored=False):
-    """How many records there are, and what one call of each operation takes, in a run of its own."""
+    """Returns the number of records, and the time of one call of each operation, in a run of its own."""
     with tempfile.TemporaryDirectory() as room:
         words = [os.path.abspath(program), str(capacity), str(ROOM), *["stored"] * is_stored]
         return costs(kind(words, room), capacity, records)
 
 
 def machine():
-    """What the machine says of itself, and how busy it is."""
+    """Returns a line on the machine, and how busy it is."""
     with open("/proc/cpuinfo", encoding="utf-8") as it:
         name = re.search(r"^model name\s*: (.*)", it.read(), re.M)
     return f"{os.cpu_count()} cores of {name[1].strip() if name else 'an unknown kind'}, load {os.getloadavg()[0]:.1f}"

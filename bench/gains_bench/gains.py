@@ -1,7 +1,7 @@
 #!/usr/bin/env python3
 """Measures what the cache gains and what consistency costs, from outside of the program gains_bench. bench/gains.sh runs it.
 
-usage: gains.py PROGRAM [--svg FILE] [--no-instructions] [--sizes QUERIES..] [--pages N] [--capacities N..]
+usage: gains.py PROGRAM [--no-instructions] [--sizes QUERIES..] [--pages N] [--capacities N..]
 
 The program's own time passes by a millisecond a page, so what it shows is the same on every machine: only times are of the
 machine. A page is two calls of functions of so many queries; every second page is of two functions at one item, and shows by
@@ -41,7 +41,7 @@ SECOND = 1_000
 
 
 class Setting(NamedTuple):
-    """How pages are made, and how often the node is kept, in milliseconds."""
+    """The way in which pages are made, and the milliseconds between two keeps of the node."""
 
     mode: str
     staleness: int
@@ -82,9 +82,6 @@ class Counts(NamedTuple):
 
     def since(self, before):
         return Counts(*(now - then for now, then in zip(self, before)))
-
-    def hit_rate(self):
-        return self.hits / max(1, self.hits + self.misses)
 
 
 class Run:
@@ -152,7 +149,7 @@ def warmed(run, setting):
 
 
 def timed(program, setting, queries, pages):
-    """What the pages came to, and the processor time of each."""
+    """Returns the counts of the pages, and the processor time of each."""
     run = warmed(Run([program, *setting.words(queries)]), setting)
     before, start = run.counts(), run.spent()
     run.obey(pages)
@@ -248,117 +245,19 @@ def table_of_capacities(measuring, capacities, queries, staleness):
     """A row of each size of the node: hits and torn pages, at one staleness."""
     print(f"\n| Entries | The cache, {staleness // 1000} s: hits | A plain cache: hits | Torn |")
     print("|---" * 4 + "|")
-    rows = []
     for capacity in capacities:
         pair = []
         for mode in ("transactions", "plain"):
             setting = Setting(mode, staleness, EVERY_SECOND, capacity)
             pair.append(timed(measuring.program, setting, queries, measuring.pages_to_time(setting))[0])
-        cache, plain = pair
+        plain = pair[1]
         shown = [percent(it.hits, it.hits + it.misses) for it in pair]
         print(f"| {capacity:,} | {shown[0]} | {shown[1]} | {percent(plain.torn, plain.pages / 2)} |", flush=True)
-        rows.append((capacity, cache.hit_rate(), plain.hit_rate()))
-    return rows
-
-
-# ---- the picture
-
-COLOURS = {"queries": "#888888", "transactions": "#1f5fa8", "plain": "#c4572a"}
-STALENESSES = (0, 1_000, 5_000, 30_000)
-
-
-class Panel:
-    """A part of the picture, with a scale of its own."""
-
-    def __init__(self, left, title, most, lines):
-        self.left, self.title, self.most, self.lines = left, title, most, lines
-
-    def x(self, place, places):
-        return self.left + 40 + place * 250 / max(1, places - 1)
-
-    def y(self, height):
-        return 290 - 220 * height / self.most
-
-    def text(self, x, y, said, more=""):
-        return f'<text x="{x:.0f}" y="{y:.0f}" font-size="12" {more}>{said}</text>'
-
-    def frame(self, names, ticks):
-        parts = [self.text(self.left + 40, 30, self.title, 'font-weight="bold"')]
-        for height, said in ticks:
-            y = self.y(height)
-            parts.append(f'<line x1="{self.left + 40}" x2="{self.left + 290}" y1="{y:.1f}" y2="{y:.1f}" stroke="#dddddd"/>')
-            parts.append(self.text(self.left + 36, y + 4, said, 'text-anchor="end"'))
-        for place, name in enumerate(names):
-            parts.append(self.text(self.x(place, len(names)), 310, name, 'text-anchor="middle"'))
-        return parts
-
-    def drawn(self, places):
-        parts = []
-        for colour, dashes, heights in self.lines:
-            points = [(self.x(place, places), self.y(height)) for place, height in enumerate(heights) if height is not None]
-            joined = " ".join(f"{x:.1f},{y:.1f}" for x, y in points)
-            parts.append(f'<polyline points="{joined}" fill="none" stroke="{colour}" stroke-width="2" stroke-dasharray="{dashes}"/>')
-            parts += [f'<circle cx="{x:.1f}" cy="{y:.1f}" r="3" fill="{colour}"/>' for x, y in points]
-        return parts
-
-
-def setting_at(mode, staleness):
-    """The setting of a mode at a staleness: at none, the one that is kept each millisecond."""
-    return Setting(mode, staleness, EVERY_SECOND if staleness else EVERY_MOMENT)
-
-
-def hits_panel(found, size):
-    lines = []
-    for mode in ("transactions", "plain"):
-        rates = [found[setting_at(mode, it), size].counts.hit_rate() for it in STALENESSES]
-        lines.append((COLOURS[mode], "", rates))
-    return Panel(0, "hits, of all calls", 1, lines)
-
-
-def cost_panel(found, left, size, unit):
-    cost = lambda setting: getattr(found[setting, size], unit)
-    none = cost(SETTINGS[0])
-    lines = [(COLOURS["queries"], "6 4", [none] * len(STALENESSES))]
-    for mode in ("transactions", "plain"):
-        lines.append((COLOURS[mode], "", [cost(setting_at(mode, it)) for it in STALENESSES]))
-    name = "instructions" if unit == "instructions" else "ns"
-    return Panel(left, f"{name} a page, {named(size)} a call", max(max(it[2]) for it in lines) or 1, lines)
-
-
-def short(number):
-    for size, name in ((1_000_000, "M"), (1_000, "k")):
-        if number >= size:
-            return f"{number / size:.3g}{name}"
-    return f"{number:.3g}"
-
-
-def legend():
-    parts = []
-    for place, (mode, said) in enumerate([("queries", "no cache"), ("transactions", "the cache"), ("plain", "a plain cache")]):
-        x = 40 + 150 * place
-        parts.append(f'<line x1="{x}" x2="{x + 24}" y1="345" y2="345" stroke="{COLOURS[mode]}" stroke-width="2"/>')
-        parts.append(f'<text x="{x + 30}" y="349" font-size="12">{said}</text>')
-    return parts
-
-
-def picture(found, sizes, unit, name):
-    panels = [hits_panel(found, sizes[0])]
-    panels += [cost_panel(found, 330 * (at + 1), size, unit) for at, size in enumerate(sizes)]
-    names = [f"{it // 1000} s" for it in STALENESSES]
-    parts = legend()
-    for panel in panels:
-        ticks = [(panel.most * part / 4, f"{25 * part} %" if panel.most == 1 else short(panel.most * part / 4)) for part in range(5)]
-        parts += panel.frame(names, ticks) + panel.drawn(len(names))
-    width = 330 * len(panels) + 10
-    head = f'<svg xmlns="http://www.w3.org/2000/svg" width="{width}" height="365" font-family="sans-serif">'
-    with open(name, "w", encoding="utf-8") as file:
-        file.write("\n".join([head, f'<rect width="{width}" height="365" fill="white"/>', *parts, "</svg>\n"]))
 
 
 def words():
     all_words = argparse.ArgumentParser(usage=__doc__.partition("usage: ")[2].partition("\n")[0])
     all_words.add_argument("program")
-    all_words.add_argument("--svg")
     all_words.add_argument("--no-instructions", dest="instructions", action="store_false")
     all_words.add_argument("--sizes", nargs="+", type=int, default=[1, 10, 60])
     all_words.add_argument("--pages", type=int, default=8_000)
@@ -379,8 +278,6 @@ def main():
             table_of_costs(found, options.sizes, unit)
         if options.capacities:
             table_of_capacities(measuring, options.capacities, options.sizes[0], 5_000)
-    if options.svg:
-        picture(found, options.sizes, "instructions" if options.instructions else "nanoseconds", options.svg)
 
 
 if __name__ == "__main__":

@@ -59,7 +59,7 @@ int main(int words, char **word) {
     if (words != 4)
         return 2;
     uint32_t capacity = (uint32_t)strtoul(word[2], NULL, 10), count = (uint32_t)strtoul(word[3], NULL, 10), found = 0;
-    txc_site_settings settings = {sizeof settings, 0, capacity, 64, 1000, 0};
+    txc_site_settings settings = {sizeof settings, 0, capacity, 64, 1000, 0, TXC_STORE_SQL};
     must(txc_site_open(&site, &settings), TXC_DONE);
     for (uint32_t part = 0; part < ROWS / WRITTEN; part++)
         write_rows(part * WRITTEN);

@@ -6,11 +6,11 @@ from typing import Callable, Dict, Iterator, Sequence
 
 from owndb import Room
 
-from . import pages, server_load, torn
+from . import following, pages, server_load, torn
 
 TABLES: Dict[str, Callable[[Room, float], Iterator[str]]] = {
     "torn": torn.lines, "pages": pages.page_lines, "threads": pages.thread_lines, "commits": server_load.commit_lines, "processes": server_load.process_lines,
-    "snapshots": server_load.snapshot_lines}
+    "snapshots": server_load.snapshot_lines, "following": following.lines}
 SHORT = 0.15  # of the seconds of a whole run
 
 

@@ -25,14 +25,14 @@ def resident_mb(pid: int) -> float:
 
 
 def write(where: str, seconds: float, seed: int) -> Dict[str, Any]:
-    """What one writing process counts."""
+    """Returns the counts of one writing process."""
     from tests import beside
 
     return beside.write(where, seconds, seed, pause=WRITER_RESTS)
 
 
 def read(where: str, seconds: float, seed: int) -> Dict[str, Any]:
-    """What one reading process counts."""
+    """Returns the counts of one reading process."""
     from tests import beside
 
     counts, oldest = [beside.Counter() for _ in range(THREADS)], [0.0]

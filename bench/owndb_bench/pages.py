@@ -1,4 +1,4 @@
-"""What a page takes: of hits, for the first time, and by queries; beside Redis, memcached and a dictionary; and pages a second of threads and processes."""
+"""The time of a page: of hits, for the first time, and by queries; beside Redis, memcached and a dictionary; and pages a second of threads and processes."""
 
 import contextlib
 import os
@@ -92,10 +92,10 @@ def ways_of(room: Room, where: str, shop: Shop, parts_of: Callable[[int], List[P
     filled = {part: value for item in range(52) for part, value in zip(parts_of(item), shop.filled(parts_of(item)))}
     for part, value in filled.items():
         plain.set(part, value)
-    ways: Dict[str, Callable[[int], Any]] = {"txcache, hits": lambda it: shop.page(parts_of(it)), "a dictionary": lambda it: plain.page(parts_of(it)),
+    ways: Dict[str, Callable[[int], Any]] = {"TxCache, hits": lambda it: shop.page(parts_of(it)), "a dictionary": lambda it: plain.page(parts_of(it)),
                                              "queries, one snapshot": queries, "queries, each its own": each}
     named = {part: f"{part[0]}:{part[1]}" for part in filled}
-    for name, opened in (("Redis, MGET", room.redis), ("memcached, get_many", room.memcached)):
+    for name, opened in (("Redis, MGET", room.redis), ("memcached, `get_many`", room.memcached)):
         try:
             far = opened()
         except Skipped as error:
@@ -128,12 +128,12 @@ def page_lines(room: Room, scale: float) -> Iterator[str]:
     for kind, parts_of in KINDS.items():
         shop = Shop(room.store(where, TOLD), refresh=1000.0)
         took = in_turn(ways_of(room, where, shop, parts_of), blocks=blocks, pages=pages)
-        looks = in_turn({"txcache, hits, a look each": lambda it: shop.page(parts_of(it), 0.0)}, blocks=max(2, blocks // 5), pages=20)
+        looks = in_turn({"TxCache, hits, a look each": lambda it: shop.page(parts_of(it), 0.0)}, blocks=max(2, blocks // 5), pages=20)
         shop.cache.close()
-        columns[kind] = {**took, **looks, "txcache, for the first time": first_us(room, where, parts_of, scale)}
+        columns[kind] = {**took, **looks, "TxCache, for the first time": first_us(room, where, parts_of, scale)}
     yield "Microseconds a page, asked in turn, the least block of each; nobody writes; PostgreSQL.\n"
     yield f"| | {' | '.join(columns)} |\n|---|{'---|' * len(columns)}"
-    names = ["txcache, hits", "txcache, hits, a look each", "txcache, for the first time", "queries, one snapshot", "queries, each its own", "Redis, MGET", "memcached, get_many", "a dictionary"]
+    names = ["TxCache, hits", "TxCache, hits, a look each", "TxCache, for the first time", "queries, one snapshot", "queries, each its own", "Redis, MGET", "memcached, `get_many`", "a dictionary"]
     for name in names:
         yield f"| {name} | {' | '.join(f'{it[name]:.0f}' if name in it else 'skipped' for it in columns.values())} |"
 
@@ -164,10 +164,11 @@ def thread_lines(room: Room, scale: float) -> Iterator[str]:
     where, seconds = room.database("postgres"), 4.0 * scale
     env = {**os.environ, "PYTHONPATH": os.pathsep.join(sys.path[:2])}
     yield "Pages of four hits a second, nobody writes.\n"
-    yield "| processes | threads each | pages a second |\n|---|---|---|"
-    for processes, threads in ((1, 1), (1, 8), (4, 1), (4, 8)):
+    yield "| Pages of four hits | Pages a second |\n|---|---|"
+    names = {(1, 1): "one process, one thread", (1, 8): "one process, eight threads", (4, 1): "four processes, one thread each", (4, 8): "four processes, eight threads each"}
+    for (processes, threads), name in names.items():
         running = [subprocess.Popen([sys.executable, "-m", "owndb_bench.pages", where, str(seconds), str(threads)], env=env, stdout=subprocess.PIPE, text=True) for _ in range(processes)]
-        yield f"| {processes} | {threads} | {sum(float(it.communicate()[0]) for it in running):,.0f} |"
+        yield f"| {name} | {sum(float(it.communicate()[0]) for it in running):,.0f} |"
 
 
 if __name__ == "__main__":

@@ -15,7 +15,7 @@ import time
 from typing import Any
 
 ROOT = os.path.dirname(os.path.dirname(os.path.dirname(os.path.abspath(__file__))))
-PLACES, STEPS, TAGS, KEPT = (4096, 16_384, 65_536), 64, 500, 16
+PLACES, STEPS, TAGS, KEPT = (4096, 65_536, 1_048_576), 64, 500, 16
 
 
 def row(places: int) -> str:

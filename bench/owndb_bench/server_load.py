@@ -1,4 +1,4 @@
-"""What a cache costs the server: what a commit pays, what following takes, connections of many processes, and what open snapshots keep.
+"""The cost of a cache for the server: of a commit, of following, of the connections of many processes, and of open snapshots.
 
 usage: python3 -m owndb_bench.server_load follow WHERE SECONDS REFRESH HOLD    a process that reads pages of hits, and prints its counts as JSON
 """
@@ -13,6 +13,8 @@ from typing import Dict, Iterator, List
 from owndb import TOLD, Room, commits_of, link_of, look_ms
 
 TICK = os.sysconf("SC_CLK_TCK")
+# How many processes read, in words.
+NAMES = {1: "one process", 4: "four processes", 8: "eight processes"}
 
 
 class Load:
@@ -80,7 +82,8 @@ def process_lines(room: Room, scale: float) -> Iterator[str]:
     seconds, where = max(3.0, 8.0 * scale), room.database("postgres")
     load, ask = Load(server().folder), link_of(where)
     yield f"Processes that read pages of four parts at max_age=5.0, 100 a second each, beside one writer of 50 commits a second; {seconds:g} s each. A look takes {look_ms(room.store(where)):.2f} ms.\n"
-    yield "| processes | connections, most | server's processor, ms a second | of it for a process | hits of 100 parts | pages lost |\n|---|---|---|---|---|---|"
+    yield "| 100 pages a second and process, beside 50 commits a second | Connections at most | Server's processor for a process |\n|---|---|---|"
+    lost = []
     alone = 0.0
     for count in (0, 1, 4, 8):
         writing = subprocess.Popen([sys.executable, "-m", "owndb_bench.torn", "write", where, str(seconds + 3), "1", "{}"], stdout=subprocess.PIPE, text=True,
@@ -99,14 +102,16 @@ def process_lines(room: Room, scale: float) -> Iterator[str]:
                 total[name] = total.get(name, 0) + value
         writing.communicate()
         parts = max(1, total.get("hits", 0) + total.get("computed", 0))
-        shown = [f"{(ms - alone) / count:.0f}", f"{100 * total['hits'] / parts:.1f}", f"{total['lost']:.0f}"] if count else ["", "", ""]
-        yield f"| {count} | {most} | {ms:.0f} | {' | '.join(shown)} |"
+        if count:
+            yield f"| {NAMES[count]} | {most} | {(ms - alone) / count:.0f} ms a second |"
+            lost.append(f"{NAMES[count]}: {100 * total['hits'] / parts:.1f} hits of 100, {total['lost']:.0f} pages lost")
+    yield f"\n{'; '.join(lost)}.\n"
 
 
 def snapshot_lines(room: Room, scale: float) -> Iterator[str]:
     """Each hold in a database of its own, since the dead rows of one would be the next's."""
     yield "What open snapshots cost: eight writers that change one hot row of each of four tables, beside two processes that read.\n"
-    yield "| hold | seconds | commits a second | of those beside none | dead rows of the hot tables, most | blocks of them at the end |\n|---|---|---|---|---|---|"
+    yield "| `hold` | Commits a second | Of those beside none | Dead rows of the hot tables, most |\n|---|---|---|---|"
     alone = 0.0
     for hold, seconds in ((0.0, 8.0), (1.0, 8.0), (5.0, 12.0), (10.0, 20.0), (60.0, 45.0)):
         where, seconds = room.database("postgres"), max(2.0, seconds * scale)
@@ -116,10 +121,10 @@ def snapshot_lines(room: Room, scale: float) -> Iterator[str]:
         commits = commits_of(where, seconds, True, 8)
         alone = alone or commits
         ask("SELECT pg_stat_clear_snapshot()")
-        (dead, blocks), = ask("SELECT sum(pg_stat_get_dead_tuples(c.oid)), sum(pg_relation_size(c.oid) / 8192) FROM pg_class c WHERE c.relname = ANY (%s)", list(TOLD))
+        (dead,), = ask("SELECT sum(pg_stat_get_dead_tuples(c.oid)) FROM pg_class c WHERE c.relname = ANY (%s)", list(TOLD))
         for it in running:
             it.communicate()
-        yield f"| {f'{hold:g} s' if hold else 'none'} | {seconds:g} | {commits:,.0f} | {commits / alone:.2f} | {int(dead):,} | {int(blocks):,} |"
+        yield f"| {f'{hold:g} s' if hold else 'no reader'} | {commits:,.0f} | {commits / alone:.2f} | {int(dead):,} |"
 
 
 if __name__ == "__main__":

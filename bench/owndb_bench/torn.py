@@ -22,7 +22,7 @@ QUERIES: Dict[str, Tuple[str, str, str]] = {  # of each part: its query, and the
     "bids": ("SELECT max(price) FROM bids WHERE item = %s", "bids", "item"),
     "balance": ("SELECT balance FROM accounts WHERE id = %s", "accounts", "id"),
     "copy": ("SELECT balance FROM copies WHERE id = %s", "copies", "id")}
-WAYS = {"txcache": "txcache, max_age=5.0", "dictionary": "a dictionary, 5 s", "noted": "a dictionary, 5 s, dropped by the notes each 0.5 s",
+WAYS = {"txcache": "TxCache, 5 s", "dictionary": "a dictionary, 5 s", "noted": "a dictionary that the notes invalidate each 0.5 s",
         "redis": "django.core.cache over Redis, 5 s", "memcached": "django.core.cache over memcached, 5 s", "snapshot": "queries in one snapshot"}
 
 
@@ -170,7 +170,7 @@ def cache_of(way: str, where: str, places: Dict[str, str]) -> Cache:
 
 
 def read(way: str, where: str, seconds: float, seed: int, places: Dict[str, str]) -> Dict[str, float]:
-    """What one reading process counts: its pages, the torn ones, hits and misses, and its processor time."""
+    """The counts of one reading process: its pages, the torn ones, hits and misses, and its processor time."""
     from txcache import SnapshotLost
 
     cache, rand, ended, counts = cache_of(way, where, places), random.Random(seed), time.monotonic() + seconds, {"pages": 0, "torn": 0, "lost": 0}
@@ -214,7 +214,7 @@ def measured(room: Room, way: str, seconds: float, writers: int = 4, readers: in
 def lines(room: Room, scale: float) -> Iterator[str]:
     seconds = 10.0 * scale
     yield f"Four writers beside two reading processes, pages of five parts over {ITEMS} items, {seconds:g} s each; PostgreSQL.\n"
-    yield "| | pages | torn | of 100 pages | hits of 100 parts | us of the processor a page | commits a second |\n|---|---|---|---|---|---|---|"
+    yield "| | Pages | Torn | Of 100 | Hits of 100 | Processor a page | Commits a second |\n|---|---|---|---|---|---|---|"
     for way, name in WAYS.items():
         try:
             found = measured(room, way, seconds)
@@ -223,7 +223,7 @@ def lines(room: Room, scale: float) -> Iterator[str]:
             continue
         parts = max(1, found["hits"] + found["misses"])
         yield (f"| {name} | {found['pages']:,.0f} | {found['torn']:,.0f} | {100 * found['torn'] / max(1, found['pages']):.2g} | {100 * found['hits'] / parts:.1f} | "
-               f"{1e6 * found['processor'] / max(1, found['pages']):.0f} | {found['commits'] / (seconds + 1):.0f} |")
+               f"{1e6 * found['processor'] / max(1, found['pages']):.0f} µs | {found['commits'] / (seconds + 1):.0f} |")
 
 
 if __name__ == "__main__":

@@ -150,7 +150,7 @@ int main(int count, char **words) {
         return 2;
     items = (uint32_t)strtoul(words[3], NULL, 10);
     unsigned long wanted = strtoul(words[1], NULL, 10), every = strtoul(words[2], NULL, 10), kept = 0, said = 0;
-    txc_site_settings settings = {sizeof settings, 0, CAPACITY, RECENT, RENEW, 0};
+    txc_site_settings settings = {sizeof settings, 0, CAPACITY, RECENT, RENEW, 0, TXC_STORE_SQL};
     must(txc_site_open(&site, &settings), TXC_DONE);
     put_all(1);
     put_all(2);

@@ -142,7 +142,7 @@ def writes(bench):
 
 
 def halves(bench, rows):
-    """What purges take beside the writing of what they drop: of half of all versions as old bodies, and of the most rows."""
+    """Measures purges beside the writing of what they drop: of half of all versions as old bodies, and of the most rows."""
     for name, operation, count in (("old bodies", "write_1", rows), ("removed rows", "remove", rows * 3 // 5)):
         bench.run("purge 1", 1)
         spent = bench.run(f"{operation} {count}", count)
@@ -189,7 +189,7 @@ def main():
 
 
 def compare(of, spent, is_wanted):
-    """What the greatest size takes, as a multiple of what the least does."""
+    """Returns the time of the greatest size, as a multiple of that of the least."""
     if len(spent) < 2:
         return
     least, most = min(spent), max(spent)

@@ -21,7 +21,7 @@ static uint32_t bid(txc_node *node, unsigned price) {
     return txc_node_event(node, newest, &BIDS_OF_ITEM, 1, &closed, &processed);
 }
 
-/* What a function gives at a stamp, without a cache. */
+/* The result of a function at a stamp, without a cache. */
 static void compute(uint8_t function, uint32_t stamp, char *text, size_t room) {
     unsigned count = bid_count[stamp];
     size_t len = 0;

@@ -16,7 +16,7 @@ static void must(uint32_t got, uint32_t wanted) {
     }
 }
 
-/* What the functions give, of the rows that were found. */
+/* The results of the functions, of the rows that were found. */
 static size_t computed(uint8_t function, size_t count, char *to) {
     unsigned most = 0;
     size_t len = 0;

@@ -1,4 +1,4 @@
-/* Eight threads with pages whose functions sleep, beside one that writes: no page is torn, and nobody waits for another's function.
+/* Eight threads with pages whose functions sleep, beside one that writes: no page is torn, and none waits for another's function.
  *
  * Function 0 is the highest bid on an item, function 1 the list of its bids, and function 2 both of them. A mutex is held for each call of the library,
  * or for a query with its rows, and never while a function sleeps. */
@@ -36,7 +36,7 @@ static uint64_t now(void) {
 
 static void rest(long milliseconds) { nanosleep(&(struct timespec){0, milliseconds * 1000000}, NULL); }
 
-/* What a function does beside its queries, for some milliseconds. */
+/* The work of a function beside its queries, for some milliseconds. */
 static void work(void) {
     take();
     if (++asleep > most_asleep)

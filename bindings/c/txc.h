@@ -30,7 +30,7 @@ extern "C" {
 #endif
 
 /* The number of this header: it rises with each change of a call or a struct. txc_abi() gives that of the library. */
-#define TXC_ABI 3
+#define TXC_ABI 4
 
 #define TXC_LAST_FUNCTION 63       /* functions are 0 to 63 */
 #define TXC_MAX_ARGS 4             /* arguments of a call */
@@ -77,7 +77,7 @@ typedef struct {
     bool is_still;
 } txc_reach;
 
-/* What an insertion stored: the reach after the events that the result had missed; and whether an entry was dropped
+/* The effect of an insertion: the reach after the events that the result had missed; and whether an entry was dropped
  * for it, and then that entry's key and first stamp. */
 typedef struct {
     txc_reach reach;
@@ -104,14 +104,15 @@ typedef struct {
     uint64_t trimmed;
 } txc_totals;
 
-/* What a call returns. */
+/* Return codes of a call. */
 enum {
     TXC_DONE = 0,            /* it was done; of a lookup, a hit */
     TXC_MISS = 1,            /* no entry of the key holds at a stamp that was asked for */
     TXC_KEPT = 2,            /* an entry of the key that begins there ends no earlier: it stays, and the new one is dropped */
     TXC_NO_ROOM = 3,         /* a hit, but the value is longer than the buffer: *reach and *len are told, no byte is
                               * written, and the entry stays. Ask again with that much room */
-    /* Refusals. The node is as it was, nothing is counted, and nothing is written but *processed. */
+    /* Refusals. The node is as it was, nothing is counted, and nothing is written but *processed; but
+     * txc_keep may have done a part of its work. */
     TXC_CLOSED = 4,          /* the handle has no node, or no site */
     TXC_ALREADY_OPEN = 5,    /* the handle has a node or a site, which stays */
     TXC_BAD_ARGUMENT = 6,    /* a number is above its limit, a size is wrong, a body is too long, or a tag is of no kind */
@@ -122,7 +123,7 @@ enum {
     TXC_NO_MEMORY = 11,      /* malloc or realloc refused; the call may be made again */
     /* Of transactions. */
     TXC_COMPUTE = 12,        /* the call has no result that may be used: compute its function */
-    TXC_ANSWERED = 13,       /* the function that you compute has its answer: go on with it. Or the rows of a query were found */
+    TXC_ANSWERED = 13,       /* the function that you compute has its answer: continue with it. Or the rows of a query were found */
     TXC_NOT_OPEN = 14,       /* the site has no open transaction of that number of which this can be asked; or no function is
                               * computed */
     TXC_MID_CALL = 15,       /* a call is open: finish it, give it up, or abort */
@@ -177,11 +178,16 @@ typedef struct {
                           * Before it keeps a value it drops the entries that were used longest ago, as txc_site_trim does, until
                           * there is room. A value of more bytes is answered and not kept. 0: there is no budget, and nothing is
                           * dropped for its bytes */
+    size_t store;        /* where the newest version of each row lies. TXC_STORE_SQL, the default: in a table of SQLite in memory, for
+                          * rows that are queried. TXC_STORE_PLAIN: in ordered maps, for small rows that are written a hundred times
+                          * as often as they are read, such as versions. Every call has the same answer over both */
 } txc_site_settings;
 
-#define TXC_SITE_SETTINGS {sizeof(txc_site_settings), 0, 0, 0, 0, 0}
+enum { TXC_STORE_SQL = 0, TXC_STORE_PLAIN = 1 };
 
-/* What a keep did: how many pins it retired, the horizon that it left, below which nothing is read any more, and how many
+#define TXC_SITE_SETTINGS {sizeof(txc_site_settings), 0, 0, 0, 0, 0, TXC_STORE_SQL}
+
+/* The effect of a keep: how many pins it retired, the horizon that it left, below which nothing is read any more, and how many
  * results the node dropped. */
 typedef struct {
     size_t retired;
@@ -253,7 +259,7 @@ uint32_t txc_node_count(txc_node *node, uint8_t function, txc_counts *counts);
  *
  * A site has up to TXC_MAX_OPEN transactions open at once, each with its number. A call about one leaves every other as it is, also
  * in the middle of its calls. So threads that share a site lock each call of this header, and no more: while one computes a
- * function, the others' transactions go on.
+ * function, the others' transactions continue.
  *
  * A transaction that only reads is answered as if nothing had been cached: all it was answered is right in one state, that of its
  * receipt's stamp. One that writes reads one state, and is committed only if nothing that it read of it has changed since.
@@ -263,11 +269,11 @@ uint32_t txc_node_count(txc_node *node, uint8_t function, txc_counts *counts);
  * TXC_ANSWERED gives the value of a call, or says how many rows there are. A transaction that writes uses no cache: there each
  * function is computed, and nothing of it is kept.
  *
- * What you owe: what a function asks next, or gives, is determined by its number, its arguments and what it was answered so far;
+ * Obligations of the caller: what a function asks next, or gives, is determined by its number, its arguments and what it was answered so far;
  * and it refuses no arguments. Of your functions nothing else is assumed.
  *
- * Where a value or a body is longer than the buffer, TXC_NO_ROOM comes in the place of TXC_DONE or TXC_ANSWERED: its length is
- * written and no byte of it, and it can be had again. Every call answers TXC_CLOSED where the handle has no site, and each call
+ * Where a value or a body is longer than the buffer, TXC_NO_ROOM replaces TXC_DONE or TXC_ANSWERED: its length is
+ * written and no byte of it, and it can be had again: by txc_answer, a row by txc_row_at. Every call answers TXC_CLOSED where the handle has no site, and each call
  * that takes a txc_txn answers TXC_NOT_OPEN where the site has none open of that number: it has ended, was never given, or is
  * another site's. Other arguments are judged first. No other number than those that a call names is returned, and a
  * refusal writes nothing but where that is said. */
@@ -288,7 +294,7 @@ uint32_t txc_site_close(txc_site *site);
 uint32_t txc_begin(txc_site *site, uint64_t now, uint64_t staleness, uint32_t at_least, txc_txn *txn);
 
 /* Asks for the value of a call, in either transaction. TXC_DONE or TXC_ANSWERED write it; TXC_NO_ROOM writes its length alone, and
- * txc_answer gives it once more. In a transaction that writes it is TXC_COMPUTE. A function calls functions of lower numbers: another
+ * txc_answer gives it again. In a transaction that writes it is TXC_COMPUTE. A function calls functions of lower numbers: another
  * call is TXC_REFUSED. So is each further ask, a txc_finish too, once the functions of the outermost call have asked TXC_MAX_ASKS
  * times; and one for which memory is wanting. With TXC_REFUSED the whole open call has ended.
  * TXC_DONE, TXC_ANSWERED, TXC_COMPUTE, TXC_NO_ROOM, TXC_NOT_OPEN, TXC_BAD_ARGUMENT or TXC_REFUSED. */
@@ -305,7 +311,7 @@ uint32_t txc_query_rows(txc_site *site, txc_txn txn, const txc_query *query, siz
  * TXC_DONE, TXC_NO_ROOM, TXC_NOT_OPEN, or TXC_MISS where there is no such row. */
 uint32_t txc_row_at(txc_site *site, txc_txn txn, size_t at, txc_row *row, uint8_t *body, size_t room, size_t *len);
 
-/* Writes the last answer of the transaction once more: TXC_DONE of a call; TXC_ANSWERED inside a function, or of a query, whose
+/* Writes the last answer of the transaction again: TXC_DONE of a call; TXC_ANSWERED inside a function, or of a query, whose
  * length is how many rows there are.
  * TXC_DONE, TXC_ANSWERED, TXC_NO_ROOM, TXC_NOT_OPEN, or TXC_MISS where there was none. */
 uint32_t txc_answer(txc_site *site, txc_txn txn, uint8_t *value, size_t room, size_t *len);
@@ -362,9 +368,10 @@ uint32_t txc_put(txc_site *site, txc_txn txn, uint8_t table, uint32_t id, uint32
  * TXC_DONE, TXC_NOT_OPEN, TXC_BAD_ARGUMENT, TXC_REFUSED or TXC_NO_MEMORY. */
 uint32_t txc_remove(txc_site *site, txc_txn txn, uint8_t table, uint32_t id);
 
-/* Commits the changes, and writes the newest stamp that they leave. What is not TXC_DONE has committed nothing, and the transaction
+/* Commits the changes, and writes the newest stamp that they leave. Any other code than TXC_DONE has committed nothing, and the transaction
  * stays open with its changes; of TXC_CONFLICT it can only be aborted.
- * TXC_DONE, TXC_NOT_OPEN, TXC_MID_CALL, TXC_CONFLICT, TXC_NO_MEMORY, or TXC_REFUSED where there is no room for an event. */
+ * TXC_DONE, TXC_NOT_OPEN, TXC_MID_CALL, TXC_CONFLICT, TXC_NO_MEMORY, or TXC_REFUSED where there is no room for an event, or where
+ * the store of the rows has no memory for its own work: that commit may be made again. */
 uint32_t txc_commit_write(txc_site *site, txc_txn txn, uint32_t *stamp);
 
 /* Pins the newest state, with this moment, for transactions that begin later, and writes its stamp. Such a pin is an event. No
@@ -374,7 +381,7 @@ uint32_t txc_pin(txc_site *site, uint64_t moment, uint32_t *stamp);
 
 /* Tidies, whatever is open: the node takes the events that it has not taken; the pins are retired that no transaction uses and that
  * are more than `age` milliseconds before `now`; and the versions of rows, the events that are not stored and the results go that no
- * transaction can read any more. Call it now and then: there is room for 1,024 pins. What was done before a refusal is written and
+ * transaction can read any more. Call it now and then: there is room for 1,024 pins. Work that was done before an error is written and
  * stays done.
  * TXC_DONE, TXC_NO_MEMORY or TXC_REFUSED. */
 uint32_t txc_keep(txc_site *site, uint64_t now, uint64_t age, txc_kept *kept);

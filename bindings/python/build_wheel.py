@@ -35,7 +35,7 @@ WHEEL = f"Wheel-Version: 1.0\nGenerator: {NAME}\nRoot-Is-Purelib: false\nTag: "
 
 
 class UnsupportedOperation(Exception):
-    """Of PEP 517: this backend does not build that."""
+    """Fails, as PEP 517 has it: this backend builds no source distribution."""
 
 
 def build_wheel(wheel_directory, config_settings=None, metadata_directory=None):
@@ -64,7 +64,7 @@ def _sources():
 
 
 def _built():
-    """Returns what `make library` made: the library, and the extension where Python's headers were there."""
+    """Returns what `make library` made: the library, and the extension if Python's headers were found."""
     folder = os.environ.get("TXC_LIBRARY") or OUT
     if not os.path.exists(os.path.join(folder, SHARED)):
         sys.exit(f"{NAME}: there is no {os.path.join(folder, SHARED)}: make library first")

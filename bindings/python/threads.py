@@ -1,4 +1,4 @@
-"""Eight threads with pages whose functions sleep, beside one that writes: no page is torn, and nobody waits for another's function."""
+"""Eight threads with pages whose functions sleep, beside one that writes: no page is torn, and no thread waits for another's function."""
 
 import threading
 import time
@@ -12,7 +12,7 @@ counting = threading.Lock()
 
 
 def work():
-    """What a function does beside its queries, for some milliseconds."""
+    """Stands for the other work of a function, for some milliseconds."""
     with counting:
         counts["asleep"] += 1
         counts["most"] = max(counts["most"], counts["asleep"])

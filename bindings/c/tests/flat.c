@@ -1,5 +1,6 @@
-/* Work that a node or a site of a fixed size does again and again, each kind through one of its own: the memory that is live must not grow with
- * how often it was done. Prints a line for each kind, and last how many there are.
+/* Work that a node or a site of a fixed size does again and again, each kind through one of its own, and at a site over either store of its rows:
+ * the memory that is live must not grow with how often it was done. And the memory that a row takes in either store. Prints a line for each kind,
+ * and last how many there are.
  *
  * Linked with --wrap=malloc, --wrap=realloc and --wrap=free. */
 #include "txc.h"
@@ -13,6 +14,9 @@ enum { FEW = 6000, MANY = 30000, GROWTH_KB = 256 };
 
 /* A node has ENTRIES at most, and a site is kept after so many times. */
 enum { ENTRIES = 64, RECENT = 16, RENEW = 1000, KEEP_EVERY = 100, MOST_CHANGES = 256 };
+
+/* Of so many rows with a short body each takes at most PLAIN_BYTES in ordered maps, and at least SQL_BYTES in a table of SQLite. */
+enum { ROWS = 65536, PLAIN_BYTES = 250, SQL_BYTES = 500 };
 
 /* ---- memory */
 
@@ -77,13 +81,23 @@ static void play_at_node(const char *kind, void (*round)(uint32_t)) {
     MUST(txc_node_close(&node), TXC_DONE);
 }
 
-static void play_at_site(const char *kind, void (*prepare)(void), void (*round)(uint32_t)) {
-    txc_site_settings settings = {sizeof settings, 0, ENTRIES, RECENT, RENEW, 0};
+static const char *const STORES[] = {[TXC_STORE_SQL] = "over SQLite", [TXC_STORE_PLAIN] = "over ordered maps"};
+
+static void open_site(size_t store) {
+    txc_site_settings settings = {sizeof settings, 0, ENTRIES, RECENT, RENEW, 0, store};
     MUST(txc_site_open(&site, &settings), TXC_DONE);
-    if (prepare)
-        prepare();
-    play(kind, round);
-    MUST(txc_site_close(&site), TXC_DONE);
+}
+
+static void play_at_site(const char *kind, void (*prepare)(void), void (*round)(uint32_t)) {
+    for (size_t store = TXC_STORE_SQL; store <= TXC_STORE_PLAIN; store++) {
+        char name[128];
+        snprintf(name, sizeof name, "%s, %s", kind, STORES[store]);
+        open_site(store);
+        if (prepare)
+            prepare();
+        play(name, round);
+        MUST(txc_site_close(&site), TXC_DONE);
+    }
 }
 
 /* ---- kinds */
@@ -141,16 +155,18 @@ static void put_and_remove(uint32_t number) {
     keep_now_and_then(number);
 }
 
-/* As many rows as there are rounds. */
-static void put_all(void) {
-    for (uint32_t id = 0; id < MANY; id++) {
+static void put_rows(uint32_t count) {
+    for (uint32_t id = 0; id < count; id++) {
         if (id % MOST_CHANGES == 0)
             MUST(txc_begin_write(&site, &txn), TXC_DONE);
         put(id, 0);
-        if (id % MOST_CHANGES == MOST_CHANGES - 1 || id == MANY - 1)
+        if (id % MOST_CHANGES == MOST_CHANGES - 1 || id == count - 1)
             commit();
     }
 }
+
+/* As many rows as there are rounds. */
+static void put_all(void) { put_rows(MANY); }
 
 /* A commit changes nothing, since each time another row is put as it is. The site is never kept. */
 static void put_as_it_is(uint32_t number) {
@@ -163,12 +179,30 @@ static void put_as_it_is(uint32_t number) {
     newest = stamp;
 }
 
+/* Which store it is, no answer tells: what its rows take does. */
+static void weigh(size_t store, size_t least, size_t most) {
+    txc_kept kept;
+    open_site(store);
+    size_t before = live;
+    put_rows(ROWS);
+    MUST(txc_keep(&site, 0, 0, &kept), TXC_DONE);
+    size_t bytes = (live - before) / ROWS;
+    bool is_so = least <= bytes && bytes <= most;
+    printf("a row %s: %zu bytes%s\n", STORES[store], bytes, is_so ? "" : ": of another store");
+    kinds++;
+    wrong += !is_so;
+    MUST(txc_site_close(&site), TXC_DONE);
+}
+
 int main(void) {
     play_at_node("entries of other keys, each with a tag of its own", insert_another);
     play_at_node("one entry replaced, each time with another tag", replace);
     play_at_site("commits of one row, with keeps", NULL, rewrite);
     play_at_site("rows put and removed, each another id, with keeps", NULL, put_and_remove);
     play_at_site("commits that change nothing, each of another row, without keeps", put_all, put_as_it_is);
-    printf("%u kinds of work done %d times, %u in memory that grows\n", kinds, MANY, wrong);
+    unsigned played = kinds;
+    weigh(TXC_STORE_SQL, SQL_BYTES, SIZE_MAX);
+    weigh(TXC_STORE_PLAIN, 0, PLAIN_BYTES);
+    printf("%u kinds of work done %d times, and rows of %u stores weighed, %u wrong\n", played, MANY, kinds - played, wrong);
     return wrong != 0;
 }

@@ -138,7 +138,7 @@ static uint32_t commit(bool is_writing) { return is_writing ? txc_commit_write(&
 
 static void open_within(size_t events, size_t bytes) {
     site = (txc_site)TXC_SITE_CLOSED;
-    CHECK(txc_site_open(&site, &(txc_site_settings){sizeof(txc_site_settings), events, 0, 0, 30000, bytes}) == TXC_DONE);
+    CHECK(txc_site_open(&site, &(txc_site_settings){sizeof(txc_site_settings), events, 0, 0, 30000, bytes, TXC_STORE_SQL}) == TXC_DONE);
     CHECK(begin(true) == TXC_DONE && txc_put(&site, txn, 1, 1, 7, (const uint8_t *)"110", 3) == TXC_DONE && commit(true) == TXC_DONE);
 }
 
@@ -278,7 +278,7 @@ static void try_site(size_t events) {
 
 static bool is_page(size_t events) {
     site = (txc_site)TXC_SITE_CLOSED;
-    bool is_whole = txc_site_open(&site, &(txc_site_settings){sizeof(txc_site_settings), events, 8, 8, 30000, 0}) == TXC_DONE
+    bool is_whole = txc_site_open(&site, &(txc_site_settings){sizeof(txc_site_settings), events, 8, 8, 30000, 0, TXC_STORE_SQL}) == TXC_DONE
         && begin(true) == TXC_DONE && txc_put(&site, txn, 1, 1, 7, (const uint8_t *)"110", 3) == TXC_DONE && commit(true) == TXC_DONE
         && begin(false) == TXC_DONE && call(1, 1, MOST) == TXC_COMPUTE && call(0, 1, MOST) == TXC_COMPUTE && asked(70) == 70
         && finish(1, PAGE, MOST) == TXC_ANSWERED && finish(2, 2 * PAGE, MOST) == TXC_DONE && call(0, 1, MOST) == TXC_DONE && is_of(1, PAGE)

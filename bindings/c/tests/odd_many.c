@@ -16,7 +16,7 @@ static txc_kept kept;
 
 static void open_site(txc_site *site, size_t events) {
     *site = (txc_site)TXC_SITE_CLOSED;
-    CHECK(txc_site_open(site, &(txc_site_settings){sizeof(txc_site_settings), events, 0, 0, 30000, 0}) == TXC_DONE);
+    CHECK(txc_site_open(site, &(txc_site_settings){sizeof(txc_site_settings), events, 0, 0, 30000, 0, TXC_STORE_SQL}) == TXC_DONE);
 }
 
 static uint32_t call(txc_site *site, txc_txn txn, const txc_key *key) { return txc_call(site, txn, key, value, sizeof value, &len); }
@@ -276,7 +276,7 @@ static void try_full_pins(size_t events) {
 static bool are_whole(size_t events) {
     txc_site site = TXC_SITE_CLOSED;
     txc_txn reader = 0, writer = 0, other = 0;
-    bool is_whole = txc_site_open(&site, &(txc_site_settings){sizeof(txc_site_settings), events, 8, 8, 30000, 0}) == TXC_DONE
+    bool is_whole = txc_site_open(&site, &(txc_site_settings){sizeof(txc_site_settings), events, 8, 8, 30000, 0, TXC_STORE_SQL}) == TXC_DONE
         && txc_begin_write(&site, &writer) == TXC_DONE && put(&site, writer, 1, "110") == TXC_DONE && txc_pin(&site, 900, &stamp) == TXC_DONE
         && txc_begin(&site, 1000, 30000, 0, &reader) == TXC_DONE && call(&site, reader, &(txc_key){1, 1, {7}}) == TXC_COMPUTE
         && txc_begin_write(&site, &other) == TXC_DONE && rows(&site, reader) == TXC_ANSWERED && count == 0

@@ -1,5 +1,5 @@
 /* Odd uses of a site, each with what must come of it, and updates that must not be lost, where events are stored and where they are
- * not; and a page and an update with every allocation refused in its turn. Prints how many there are. */
+ * not, over either store of rows; and a page and an update with every allocation refused in its turn. Prints how many there are. */
 #include "odd.h"
 
 /* ---- odd uses */
@@ -17,6 +17,7 @@ static txc_receipt receipt;
 static uint32_t stamp;
 static txc_kept kept;
 static txc_txn txn;  /* the one that began last; a stale number once it has ended */
+static size_t store; /* that of the next site */
 
 static uint32_t call(txc_site *site, const txc_key *key, size_t room) { return txc_call(site, txn, key, value, room, &len); }
 static uint32_t rows(txc_site *site) { return txc_query_rows(site, txn, &GROUP, &count); }
@@ -24,7 +25,7 @@ static uint32_t row_at(txc_site *site, size_t at, size_t room) { return txc_row_
 static uint32_t put(txc_site *site, const char *text) { return txc_put(site, txn, 1, 1, 7, (const uint8_t *)text, strlen(text)); }
 static uint32_t begin(txc_site *site, uint64_t now) { return txc_begin(site, now, 30000, 0, &txn); }
 static uint32_t open_site(txc_site *site, size_t events, size_t capacity, size_t recent, uint64_t renew_after) {
-    return txc_site_open(site, &(txc_site_settings){sizeof(txc_site_settings), events, capacity, recent, renew_after, 0});
+    return txc_site_open(site, &(txc_site_settings){sizeof(txc_site_settings), events, capacity, recent, renew_after, 0, store});
 }
 static uint32_t finish(txc_site *site, const char *text) {
     return txc_finish(site, txn, (const uint8_t *)text, strlen(text), value, sizeof value, &len);
@@ -71,7 +72,7 @@ static void try_opening(txc_site *site, size_t events) {
 /* A field beyond the size counts as 0, and a size that the library does not know is refused. */
 static void try_settings(void) {
     txc_site site = TXC_SITE_CLOSED;
-    txc_site_settings settings = TXC_SITE_SETTINGS, odd = {0, SIZE_MAX, SIZE_MAX, SIZE_MAX, UINT64_MAX, SIZE_MAX};
+    txc_site_settings settings = TXC_SITE_SETTINGS, odd = {0, SIZE_MAX, SIZE_MAX, SIZE_MAX, UINT64_MAX, SIZE_MAX, SIZE_MAX};
     CHECK(txc_site_open(&site, &settings) == TXC_DONE && txc_site_close(&site) == TXC_DONE);
     for (odd.size = 0; odd.size < sizeof(size_t); odd.size++)
         CHECK(txc_site_open(&site, &odd) == TXC_BAD_ARGUMENT && !site.is_open);
@@ -79,8 +80,18 @@ static void try_settings(void) {
         CHECK(txc_site_open(&site, &odd) == TXC_DONE && txc_site_close(&site) == TXC_DONE);
     CHECK(txc_site_open(&site, &odd) == TXC_BAD_ARGUMENT && !site.is_open);
     settings.bytes = 1; /* an older program's settings end before it */
+    settings.store = SIZE_MAX;
     settings.size = offsetof(txc_site_settings, bytes);
     CHECK(txc_site_open(&site, &settings) == TXC_DONE && txc_site_close(&site) == TXC_DONE);
+    for (settings.size = offsetof(txc_site_settings, store); settings.size < sizeof settings; settings.size++)
+        CHECK(txc_site_open(&site, &settings) == TXC_DONE && txc_site_close(&site) == TXC_DONE);
+    CHECK(txc_site_open(&site, &settings) == TXC_BAD_ARGUMENT && !site.is_open);
+    for (settings.store = 0; settings.store < 300; settings.store++) {
+        bool is_store = settings.store == TXC_STORE_SQL || settings.store == TXC_STORE_PLAIN;
+        CHECK(txc_site_open(&site, &settings) == (is_store ? TXC_DONE : TXC_BAD_ARGUMENT) && site.is_open == is_store);
+        CHECK(txc_site_close(&site) == (is_store ? TXC_DONE : TXC_CLOSED));
+    }
+    settings.store = TXC_STORE_PLAIN;
     settings.size = sizeof settings + 1;
     CHECK(txc_site_open(&site, &settings) == TXC_BAD_ARGUMENT);
     settings.size = SIZE_MAX;
@@ -367,7 +378,9 @@ static void try_site(size_t events) {
 int main(void) {
     long refused = 0;
     try_settings();
-    for (size_t events = 0; events <= 64; events += 64) {
+    for (size_t at = 0; at < 4; at++) {
+        size_t events = at % 2 * 64;
+        store = at / 2;
         try_site(events);
         long of_page = refuse_each(is_page, events), of_update = refuse_each(is_update, events);
         CHECK(of_page > 0 && of_update > 0);

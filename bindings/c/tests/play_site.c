@@ -1,6 +1,6 @@
 /* Plays lines of mode world with a site, and prints each as a world would be told it, with the reply, after a tab.
  *
- * usage: play_site LIST       each line of LIST: EVENTS CAPACITY RECENT RENEW FILE; prints `== FILE`, and then its lines
+ * usage: play_site LIST STORE       each line of LIST: EVENTS CAPACITY RECENT RENEW FILE; prints `== FILE`, and then its lines
  *
  * Each of eight actors is a thread that is handed its turn, so that its functions are computed on its own stack: `call` makes the first act of a
  * call, each `go` the next one, and what else the actor is told has its call end first, but `abort`. An act is as many lines `step` as it makes
@@ -544,10 +544,10 @@ static bool close_site(void) {
     return is_closed;
 }
 
-static bool play(size_t events, size_t capacity, size_t recent, uint64_t renew, const char *name) {
+static bool play(size_t events, size_t capacity, size_t recent, uint64_t renew, size_t store, const char *name) {
     FILE *file = fopen(name, "r");
     char line[LONGEST];
-    txc_site_settings settings = {sizeof settings, events, capacity, recent, renew, 0};
+    txc_site_settings settings = {sizeof settings, events, capacity, recent, renew, 0, store};
     site = (txc_site)TXC_SITE_CLOSED;
     last_given = 0;
     if (!file || txc_site_open(&site, &settings) != TXC_DONE)
@@ -562,8 +562,8 @@ static bool play(size_t events, size_t capacity, size_t recent, uint64_t renew, 
 }
 
 int main(int count, char **words) {
-    FILE *list = count == 2 ? fopen(words[1], "r") : NULL;
-    size_t events, capacity, recent;
+    FILE *list = count == 3 ? fopen(words[1], "r") : NULL;
+    size_t events, capacity, recent, store = count == 3 ? strtoul(words[2], NULL, 10) : TXC_STORE_SQL;
     uint64_t renew;
     char name[LONGEST];
     bool is_well = list != NULL;
@@ -572,7 +572,7 @@ int main(int count, char **words) {
         is_well &= !pthread_create(&actors[at].thread, NULL, run, &actors[at]);
     }
     while (list && fscanf(list, "%zu %zu %zu %" SCNu64 " %511s", &events, &capacity, &recent, &renew, name) == 5)
-        is_well &= play(events, capacity, recent, renew, name);
+        is_well &= play(events, capacity, recent, renew, store, name);
     for (int at = 0; at < ACTORS; at++) {
         *actors[at].line = 0;
         pthread_mutex_lock(&turns);

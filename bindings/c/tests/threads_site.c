@@ -249,7 +249,7 @@ static bool is_right(const page *it) {
 
 int main(int count, char **words) {
     has_lock = !(count == 2 && !strcmp(words[1], "--no-lock"));
-    txc_site_settings settings = {sizeof settings, 0, 64, 64, 20, 0};
+    txc_site_settings settings = {sizeof settings, 0, 64, 64, 20, 0, TXC_STORE_SQL};
     size_t pages = 0, updates = 0, conflicts = 0, wrong = 0, open = 0;
     must(txc_site_open(&site, &settings) == TXC_DONE, "a site");
     for (int at = 0; at < THREADS; at++) {

@@ -2,8 +2,8 @@
 
 usage: prefork.py DSN [PORT [WORKERS]]    /ITEM shows an item, /ITEM?max_age=0 as it is now
 
-The cache is made, and used, before the workers are forked. Each begins cold, with connections of its own; one that ends is forked anew. The tables are made
-if they are not there. It prints its port and its workers.
+The cache is made, and used, before the workers are forked. Each begins cold, with connections of its own; one that ends is replaced by another. The tables are made
+if they don't exist. It prints its port and its workers.
 """
 
 import json

@@ -121,7 +121,7 @@ class Pages:
                       "total": lambda item: total()}
 
     def shown(self, item: int, rand: random.Random) -> Dict[str, Any]:
-        """What a page shows of an item, asked in any order."""
+        """Returns the parts of an item that a page shows, asked in any order."""
         names = list(self.parts)
         rand.shuffle(names)
         return {name: self.parts[name](item) for name in names}

@@ -1,4 +1,4 @@
-"""What the tests of cursors, SQLAlchemy and Django share: pages whose functions read by hand, beside writers."""
+"""Parts that the tests of cursors, SQLAlchemy and Django share: pages whose functions read by hand, beside writers."""
 
 import os
 import threading

@@ -99,6 +99,9 @@ class Versions:
             self.entries = {digest: left for digest, entries in self.entries.items() if (left := [it for it in entries if it.hi >= horizon])}
             return horizon
 
+    def is_read(self) -> bool:
+        return bool(self.txns)
+
     def _each(self) -> List[Entry]:
         """Returns the entries, those that were used last at the end."""
         return sorted((it for entries in self.entries.values() for it in entries), key=lambda it: it.used)

@@ -298,7 +298,7 @@ class Cursors(Case):
 
 class OfAServer(Case):
     def test_a_holder_that_dies_while_a_query_runs(self):
-        """What was read counts only if the snapshot's own connection was alive after it: else a TRUNCATE may have come between."""
+        """A read counts only if the snapshot's own connection was alive after it: else a TRUNCATE may have come between."""
         cache = self.open(refresh=1000.0)
         slow = cache.cacheable(lambda db, number: db.cursor().execute(f"SELECT count(*), pg_advisory_xact_lock({number}) FROM items").fetchone()[0])
         self.page((self.balance, 0), (slow, 1))

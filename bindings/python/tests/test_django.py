@@ -293,7 +293,7 @@ class Aliases(Case):
         connections.databases["txcache"]["OF"] = "default"
 
     def test_types(self):
-        """What comes over the alias is what comes over Django's own."""
+        """The alias returns the same as Django's own."""
         is_file = not isinstance(self, OfPostgres)
         types = "datetime, day date, amount decimal, said text, raw blob, is_new bool" if is_file else "timestamptz, day date, amount numeric(8, 2), said jsonb, raw bytea, is_new boolean"
         self.change(f"CREATE TABLE things (id integer PRIMARY KEY, made {types})")

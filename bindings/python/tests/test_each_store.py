@@ -1,4 +1,4 @@
-"""What pages do over a file alone, or over a server alone."""
+"""Pages over a file only, or over a server only."""
 
 import os
 import sqlite3
@@ -12,7 +12,7 @@ from .cases import Case, OfPostgres, OfSqlite
 
 
 class OverAFile(Case):
-    """What only a file does."""
+    """Cases of a file only."""
 
     def test_another_file_at_the_path(self):
         """A connection of the former file, whose snapshot was open meanwhile, is not used for the next."""
@@ -36,7 +36,7 @@ class OverAFile(Case):
 
 
 class OverAServer(Case):
-    """What only a server does."""
+    """Cases of a server only."""
 
     def test_an_alter_table_waits_little_for_a_cache_busy_or_idle(self):
         cache = self.open(thread=True, refresh=0.2)

@@ -29,7 +29,7 @@ class Examples(unittest.TestCase):
             assert it.returncode == 0, it.stdout
 
     def printed(self, name, package):
-        """What an example prints, which is 60 lines at most."""
+        """Returns the text that an example prints, which is 60 lines at most."""
         if not importlib.util.find_spec(package.lower()):
             self.skipTest(skipped(package, f"there is no python3-{package.lower()}"))
         with open(f"{EXAMPLES}/{name}", encoding="utf-8") as file:

@@ -32,7 +32,7 @@ class Child:
         return json.loads(self.process.stdout.readline())
 
     def shown(self, max_age):
-        """What a page shows that keeps its snapshot: on a slow machine some are too old before they end."""
+        """Returns the values of a page that keeps its snapshot: on a slow machine some are too old before they end."""
         return next((it for it in (self.page(max_age) for _ in range(50)) if it != "SnapshotLost"), None)
 
     def stop(self):

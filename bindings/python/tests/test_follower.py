@@ -29,7 +29,7 @@ class Told:
     """A store whose looks are a list: a set of tags, a text (cold), None (no snapshot was needed) or an error."""
 
     def __init__(self, *looks):
-        self.looks, self.marks, self.snapshots, self.needs_air, self.aired = list(looks), [], [], False, 0
+        self.looks, self.marks, self.snapshots, self.needs_air, self.aired = list(looks), [], [], (), 0
 
     def look(self, last, is_wanted=True):
         self.marks.append((last, is_wanted))
@@ -42,8 +42,8 @@ class Told:
         mark = len(self.marks)
         return Look(self.snapshots[-1], mark, None, found) if isinstance(found, str) else Look(self.snapshots[-1], mark, frozenset(found))
 
-    def wants_air(self):
-        return self.needs_air
+    def wants_air(self, is_read):
+        return is_read in self.needs_air
 
     def air(self):
         self.aired += 1
@@ -60,7 +60,8 @@ class Looks(unittest.TestCase):
 
     def follower(self, *looks, hold=10.0, every=0.0):
         self.store = Told(*looks)
-        return Follower(self.store, hold, lambda: self.now, every)
+        self.is_read = False
+        return Follower(self.store, hold, lambda: self.now, every, lambda: self.is_read)
 
     def open(self):
         return [it.is_open for it in self.store.snapshots]
@@ -173,12 +174,25 @@ class Looks(unittest.TestCase):
     def test_air(self):
         it = self.follower("the first snapshot", set(), set())
         it.look()
-        self.store.needs_air, self.now = True, 0.05
+        self.store.needs_air, self.now = (False, True), 0.05
         it.look()
         self.assertEqual(self.store.aired, 0)  # it was asked a moment ago
         self.now = 0.2
         it.look()
         self.assertEqual((self.store.aired, it.numbers, self.open()), (1, [1], [False, False, True]))
+
+    def test_air_waits_for_pages(self):
+        it = self.follower("the first snapshot", set(), set(), set())
+        it.look()
+        self.store.needs_air, self.now, self.is_read = (False,), 0.2, True
+        it.look()
+        self.assertEqual((self.store.aired, self.open()), (0, [True, False]))
+        self.store.needs_air, self.now = (False, True), 0.4
+        it.look()
+        self.assertEqual((self.store.aired, self.open()), (1, [False, False, True]))
+        self.store.needs_air, self.now, self.is_read = (False,), 0.6, False
+        it.look()
+        self.assertEqual((self.store.aired, it.numbers), (2, [1]))
 
     def test_what_is_logged(self):
         it = self.follower("the first snapshot", SnapshotRefused("a lock"), SnapshotLost("away"), "another file")

@@ -56,7 +56,7 @@ def functions(cacheable):
 
     @cacheable
     def either(db, number):
-        """What it reads is another, by what it read before."""
+        """Reads by the result of an earlier read."""
         return sum(row["balance"] for row in db.rows("accounts", pair=number % 2)) if balance(number) > 100 else total()
 
     @cacheable
@@ -75,7 +75,7 @@ CALLS = [("bids", FEW[0]), ("highest", FEW[0]), ("item", FEW[0]), ("sold_by", (1
 
 
 class OverRows:
-    """What a function's `db` is over all rows of a database, by their tables."""
+    """The `db` of a function, over all rows of a database, by their tables."""
 
     def __init__(self, tables):
         self._tables = tables
@@ -93,7 +93,7 @@ class OverRows:
 
 
 def outcome(function, *args):
-    """What a call gives, or the type of its error."""
+    """Returns the value of a call, or the type of its error."""
     try:
         return function(*args)
     except (ZeroDivisionError, TypeError) as error:
@@ -207,7 +207,7 @@ class PostgresActs(OfPostgres):
 
 
 class Judge(unittest.TestCase):
-    """Of each history a cache; of all of them one database."""
+    """A cache for each history, and one database for all."""
 
     versions, histories, begin = FASTEST, 1, CacheCase.setUp
 

@@ -1,4 +1,4 @@
-"""What a cache keeps open, lets go and follows, and what it does in a child."""
+"""Snapshots that a cache keeps open, closes and follows; and its children after a fork."""
 
 import contextlib
 import gc
@@ -193,6 +193,21 @@ class Keeping(Case):
                     os._exit(0)
             os.waitpid(child, 0)
         self.assertEqual(pickle.loads(os.read(out, 1000)), [100, 100])
+
+    def test_the_log_is_copied_beside_pages(self):
+        """The store is told whether a page is open, which may lose its snapshot."""
+        cache, told = self.open(refresh=1000.0), []
+        cache.store.wants_air = told.append
+        self.page((self.balance, 0))
+        cache._follower._aired -= 1
+        cache._look()
+        with cache.read():
+            self.balance(0)
+            cache._follower._aired -= 1
+            cache._look()
+        cache._follower._aired -= 1
+        cache._look()
+        self.assertEqual(told, [False, False, True, False])
 
     def test_what_is_logged(self):
         cache = self.open(audit=1.0)

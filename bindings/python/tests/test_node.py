@@ -28,6 +28,8 @@ class NodeTests(unittest.TestCase):
             self.assertEqual(node.totals(), Totals(0, 0, 1))
 
     def test_late_stamps_and_a_wide_node(self):
+        self.assertRaisesRegex(Refused, "a call has at most 4 arguments, and was given 5", Key, 1, 2, 3, 4, 5, 6)
+        self.assertRaisesRegex(Refused, "a capacity is from 1 to 1,048,576", Node, 0, 4)
         with Node(MAX_CAPACITY, 4) as node:
             node.insert(Key(1), Reach(LAST_STAMP - 1, LAST_STAMP), [Tag.id(1, 2)], b"late")
             self.assertEqual(node.lookup(Key(1), 1_048_577, LAST_STAMP), Hit(Reach(LAST_STAMP - 1, LAST_STAMP), b"late"))

@@ -46,7 +46,16 @@ class Pages(Case):
             pass
         self.assertIsNone(page.receipt.moment)
         self.assertEqual((self.balance.cache_info().hits, self.balance.cache_info().computed), (1, 1))
-        self.assertEqual({key: cache.stats()[key] for key in ("hits", "computed", "lost", "cold", "places")}, {"hits": 1, "computed": 1, "lost": 0, "cold": 1, "places": 1})
+        self.assertEqual({key: cache.stats()[key] for key in ("hits", "computed", "lost", "cold", "places")}, {"hits": 1, "computed": 1, "lost": 0, "cold": 1, "places": 0})
+
+    def test_places(self):
+        """They are those of tags that have changed, at most so many; tags that share one are computed again together."""
+        cache = self.open(places=2)
+        self.page(*((self.balance, n) for n in range(4)))
+        self.write("UPDATE accounts SET balance = 5")
+        self.assertEqual(self.page(*((self.balance, n) for n in range(4)), max_age=0.0), [5] * 4)
+        self.assertLessEqual(cache.stats()["places"], 2)
+        self.assertGreater(cache.stats()["places"], 0)
 
     def test_nothing_is_opened_before_the_first_page(self):
         cache = TxCache(self.new_store(), versions=lambda capacity: self.fail("opened"))
@@ -99,7 +108,8 @@ class Pages(Case):
         with self.assertRaisesRegex(TypeError, "two cacheable functions"):
             self.functions(cache)
         for words, said in (({"audit": 2}, "audit is 2"), ({"refresh": 0}, "refresh is 0 seconds"), ({"max_bytes": -5}, "max_bytes is -5"), ({"hold": -1}, "hold is -1 seconds"),
-                            ({"capacity": 70_000}, "capacity is 70000, and is from 1 to 65,536"), ({"connections": 0}, "connections is 0")):
+                            ({"capacity": 70_000}, "capacity is 70000, and is from 1 to 65,536"), ({"connections": 0}, "connections is 0"),
+                            ({"places": 0}, "places is 0, and is from 1 to 16,777,216"), ({"places": 1 << 25}, "places is 33554432, and is from 1 to 16,777,216")):
             self.assertRaisesRegex(ValueError, said, TxCache, self.new_store(), **words)
         for age in (-1, float("inf")):
             self.assertRaisesRegex(ValueError, f"max_age is {age} seconds", cache.read, age)

@@ -13,7 +13,7 @@ from unittest import mock
 
 from txcache import _driver
 from txcache._store import db_of
-from txcache.errors import NotInstalled, SnapshotLost, SnapshotRefused
+from txcache.errors import NotInstalled, SnapshotLost, SnapshotRefused, TxCacheError
 
 from . import skipped, until
 from .server import server
@@ -200,7 +200,7 @@ class Partitions(Case):
 
 
 class Shape(Case):
-    """What changes, and what does not, the fingerprint of the tables."""
+    """Statements that change the fingerprint of the tables, and others that do not."""
 
     def test_the_fingerprint(self):
         self.follow(tables_text=ITEMS + "; CREATE VIEW seen AS SELECT id FROM items; CREATE TYPE mood AS ENUM ('x');"
@@ -373,6 +373,62 @@ class Install(Case):
                                guest.ask, f"CREATE TRIGGER t AFTER INSERT ON mine FOR EACH ROW EXECUTE FUNCTION {function}()")
         self.assertRaises(app.driver.Error, app.ask, "INSERT INTO txcache.notes (relation, keys) VALUES ('a', '{}')")
         self.assertIn("this role may not read the notes", self.store({"o.items": ["id"]}, None, user=f"guest_{base}").check()[0])
+
+    def test_check_names_each_table_that_a_role_may_not_read(self):
+        base, reader = self.base, f"app-{self.base}"
+        self.ask(f"CREATE ROLE owner_{base} LOGIN; CREATE ROLE \"{reader}\" LOGIN; GRANT CREATE ON DATABASE {base} TO owner_{base}; CREATE SCHEMA o AUTHORIZATION owner_{base}")
+        owner = self.link(user=f"owner_{base}")
+        owner.ask("CREATE TABLE o.items (id int PRIMARY KEY); CREATE TABLE o.parts (id int PRIMARY KEY)")
+        told = {"o.items": ["id"], "o.parts": ["id"]}
+        of_owner, of_reader = (self.store(told, None, user=it) for it in (f"owner_{base}", reader))
+        of_owner.install()
+        self.assertIn(f"the role {reader} may not use the schema txcache", of_owner.check(reader)[0])
+        of_owner.install(reader)
+        self.assertEqual(of_owner.check(), [])
+        lines = [f"{it}: the role {reader} may not read it: GRANT SELECT, and USAGE of its schema" for it in told]
+        self.assertEqual(of_owner.check(reader), lines)
+        owner.ask(f"GRANT SELECT ON o.items, o.parts TO \"{reader}\"")
+        self.assertEqual(of_owner.check(reader), lines)
+        owner.ask(f"GRANT USAGE ON SCHEMA o TO \"{reader}\"; REVOKE SELECT ON o.parts FROM \"{reader}\"")
+        self.assertEqual(of_owner.check(reader), lines[1:])
+        fault = "o.parts: this role may not read it: GRANT SELECT, and USAGE of its schema"
+        self.assertEqual(of_reader.check(), [fault])
+        with self.assertRaises(NotInstalled) as caught:
+            of_reader.look()
+        self.assertEqual(caught.exception.lines, [fault])
+        owner.ask(f"GRANT SELECT ON o.parts TO \"{reader}\"")
+        self.assertEqual((of_owner.check(reader), of_reader.check()), ([], []))
+        first = of_reader.look()
+        self.addCleanup(first.snapshot.close)
+        owner.ask(f"REVOKE SELECT ON o.parts FROM \"{reader}\"")
+        self.assertRaisesRegex(NotInstalled, "o.parts: this role may not read it", of_reader.look, first.mark)
+        self.assertEqual(of_owner.check("nobody"), ["there is no role nobody"])
+
+    def test_uninstall_is_all_or_nothing(self):
+        self.ask("CREATE TABLE parts (id int PRIMARY KEY)")
+        told = {"items": ["id"], "parts": ["id"]}
+        self.follow(told)
+        self.held.close()
+        other = self.link()
+        with mock.patch("txcache.postgres.INSTALL_TIMEOUT", 0.3):
+            for held in told:
+                other.ask(f"BEGIN; LOCK TABLE {held} IN ACCESS SHARE MODE")
+                self.assertRaisesRegex(TxCacheError, "nothing was uninstalled, run it again: .*lock timeout", self.s.uninstall)
+                other.ask("COMMIT")
+                self.assertEqual(self.s.check(), [])
+        self.assertEqual(self.s.uninstall(), ["items: uninstalled", "parts: uninstalled"])
+        self.assertEqual(self.s.uninstall(), ["items: no trigger stood", "parts: no trigger stood"])
+        self.assertEqual(self.ask("SELECT count(*) FROM pg_trigger WHERE tgname LIKE 'txcache%'"), [(0,)])
+
+    def test_uninstall_leaves_the_tables_of_another_service(self):
+        self.ask("CREATE TABLE parts (id int PRIMARY KEY)")
+        self.follow({"items": ["id"]})
+        self.held.close()
+        other = self.store({"parts": ["id"]}, None)
+        other.install()
+        self.assertEqual(self.s.uninstall(), ["items: uninstalled", "the schema txcache stays: triggers of other tables stand"])
+        self.assertEqual(other.check(), [])
+        self.assertEqual(other.uninstall(), ["parts: uninstalled"])
 
     def test_policies_are_refused(self):
         base = self.base
@@ -603,7 +659,7 @@ class Faults(Case):
         self.assertEqual(len(self.db().rows("items")), 2)
 
     def test_a_killed_holder_and_a_truncate_behind_it(self):
-        """What a reader reads after the snapshot's own connection is gone does not count: the table may be another by then."""
+        """A read after the snapshot's own connection is gone does not count: the table may be another by then."""
         self.follow()
         self.ask("INSERT INTO items (id) VALUES (1)")
         self.look()

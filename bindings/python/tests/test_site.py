@@ -1,9 +1,12 @@
 """A site's calls, each once, and its refusals."""
 
+import contextlib
+import random
 import unittest
+from unittest import mock
 
 from txcache.node import LAST_STAMP, MAX_ASKS, MAX_CAPACITY, MAX_VALUE_LEN, Refused, Totals
-from txcache.site import MAX_EVENTS, Conflict, Kept, Query, Site, cacheable
+from txcache.site import _TXC, MAX_EVENTS, Conflict, Kept, Query, Site, _refuse, cacheable
 
 
 @cacheable(0)
@@ -16,11 +19,16 @@ def twice(call, item):
     return call(highest, item) + b" " + call(highest, item)
 
 
+@cacheable(2)
+def rows(call, *asked):
+    return repr(call.rows(Query(*asked))).encode()
+
+
 class Transactions(unittest.TestCase):
-    events = None
+    events, store = None, "sql"
 
     def setUp(self):
-        self.site = Site(self.events, 100, 64)
+        self.site = Site(self.events, 100, 64, store=self.store)
         self.bid(1, b"110")
 
     def tearDown(self):
@@ -173,6 +181,28 @@ class Transactions(unittest.TestCase):
         with self.site.read(0, 0, at_least=LAST_STAMP):
             pass
 
+    def test_each_failure_says_what_failed(self):
+        with self.site.write() as write:
+            for number in range(256):
+                write.put(2, number, 0, b"")
+            self.assertRaisesRegex(Refused, "the transaction has 256 changes, and keeps no more", write.put, 2, 256, 0, b"")
+        self.assertRaisesRegex(Refused, "the stamp 9 can't be read: it is below the oldest that can, or beyond the newest", self.site.write, 9)
+        self.assertRaisesRegex(Refused, "4294967296 is not from 0 to 4,294,967,295", self.site.write, 2**32)
+        with self.site.write() as write:
+            self.assertRaisesRegex(Refused, "a body is longer than 65,536 bytes", write.put, 1, 1, 7, bytes(65_537))
+        with self.site.read(1000, 30_000) as page:
+            self.assertRaisesRegex(Refused, "the function gives 1,048,577 bytes, of at most 1,048,576", page, cacheable(2)(lambda call: bytes(MAX_VALUE_LEN + 1)))
+            self.assertRaisesRegex(Refused, "the call has made 4,096 queries and calls", page, cacheable(2)(lambda call: [call.rows(Query.id(1, 1)) for _ in range(5000)]))
+            self.assertRaisesRegex(Refused, "a function called one whose number is not lower", page, cacheable(0)(lambda call: call(twice, 7)))
+        with Site(1, store=self.store) as site:
+            with site.write() as write:
+                write.put(1, 1, 7, b"")
+            self.assertRaisesRegex(Refused, "the 1 events that the site has room for are used up, or the present can't be pinned", site.pin, 0)
+            with self.assertRaisesRegex(Refused, "the 1 events that the site has room for are used up, or the commit failed"), site.write() as write:
+                write.put(1, 2, 7, b"")
+        self.assertRaisesRegex(Refused, "events and max_bytes are at least 1, or None", Site, 0)
+        self.assertRaisesRegex(Refused, "txc_keep returned 99", _refuse, 99, _TXC.keep)
+
     def test_below_the_horizon_nothing_is_read(self):
         self.assertEqual(self.bid(1, b"120"), 2)
         self.assertEqual(self.site.keep(0, 0).horizon, 2)
@@ -197,3 +227,49 @@ class Transactions(unittest.TestCase):
 
 class StoredTransactions(Transactions):
     events = 1000
+
+
+class PlainTransactions(Transactions):
+    store = "plain"
+
+
+class StoredPlainTransactions(Transactions):
+    events, store = 1000, "plain"
+
+
+class Stores(unittest.TestCase):
+    def test_a_store_has_a_name(self):
+        for wrong in ("sqlite", "SQL", 1, None):
+            self.assertRaisesRegex(ValueError, f"store is {wrong!r}, and is one of 'sql', 'plain'", Site, store=wrong)
+        Site().close()
+
+    def test_a_number_that_is_no_store_is_refused(self):
+        with mock.patch.dict("txcache.site._STORES", {"other": 2}):
+            self.assertRaises(Refused, Site, store="other")
+
+    def test_both_return_the_same(self):
+        for seed in range(20):
+            said = [self.played(random.Random(seed), store) for store in ("sql", "plain")]
+            self.assertEqual(*said)
+
+    def played(self, rand, store):
+        """Returns what queries return beside changes, all by chance."""
+        said, stamps = [], [0]
+        with Site(None, 100, 64, store=store) as site:
+            for step in range(60):
+                with site.write() as write:
+                    for _ in range(rand.randrange(1, 6)):
+                        table, number = rand.randrange(3), rand.choice((0, 1, 5, 2**32 - 1, rand.randrange(40)))
+                        if rand.random() < 0.3:
+                            write.remove(table, number)
+                        else:
+                            write.put(table, number, rand.choice((0, 7, 2**32 - 1)), bytes(rand.randrange(30)))
+                stamps += [write.stamp, site.pin(1000 * step)]
+                said.append(site.keep(1000 * step, 20_000))
+                at = rand.choice([it for it in stamps if it >= said[-1].horizon])
+                with contextlib.suppress(Conflict), site.write(at=at) as old, site.read(1000 * step, 20_000) as page:
+                    for asked in (Query.all(rand.randrange(3)), Query.id(rand.randrange(3), rand.randrange(6)), Query.group(rand.randrange(3), 7),
+                                  Query.range(rand.randrange(3), rand.randrange(20), rand.choice((25, 2**32 - 1)))):
+                        said += [old.rows(asked), page(rows, *asked)]
+                said.append((page.receipt, old.stamp))
+        return said

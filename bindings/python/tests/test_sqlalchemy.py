@@ -230,7 +230,7 @@ class OverAServer(OfPostgres, Sessions):
         super().make()
 
     def test_types_of_the_server(self):
-        """What SQLAlchemy has a driver do for its types, it does on the connections that join snapshots, and on no others."""
+        """The driver does for SQLAlchemy's types as it asks on the connections that join snapshots, and on no others."""
         self.change("CREATE TABLE things (id uuid PRIMARY KEY, said jsonb, raw bytea, made timestamptz, words text[])",
                     "INSERT INTO things VALUES ('00000000-0000-0000-0000-000000000007', '{\"a\": [1]}', '\\x0102', '2026-01-02 03:04:05+00', '{a,b}')")
         from sqlalchemy.dialects.postgresql import ARRAY, BYTEA, JSONB, TIMESTAMP, UUID

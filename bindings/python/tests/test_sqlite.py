@@ -314,15 +314,70 @@ class Reading(Case):
         for it in ("", "x", token + " ", token.replace("-s", "-")):
             self.assertRaises(ValueError, self.s.sees, self.mark, it)
 
+    def fill_the_log(self, least):
+        """Writes until the log is longer."""
+        for _ in range(1000):
+            if self.s._log_size() > least:
+                return
+            self.ask("INSERT INTO items (name) VALUES (?)", "x" * 30_000)
+        self.fail("the log grows no more")
+
+    def wants(self):
+        """Returns whether the store wants air: while a page is open, and while none is."""
+        return self.s.wants_air(True), self.s.wants_air(False)
+
     def test_the_log_is_copied_where_no_snapshot_is_open(self):
-        self.s.max_log = 100_000
-        self.ask("WITH RECURSIVE n(n) AS (SELECT 100 UNION ALL SELECT n + 1 FROM n WHERE n < 3000) INSERT INTO items (id) SELECT n FROM n")
-        self.assertTrue(self.s.wants_air())
-        self.s.air()
-        self.assertTrue(self.s.wants_air())
+        self.s.max_log = 400_000
+        self.assertEqual(self.wants(), (False, False))
+        self.fill_the_log(210_000)
+        self.assertEqual(self.wants(), (False, True))
+        self.fill_the_log(410_000)
+        self.assertEqual(self.wants(), (True, True))
         self.held.close()
         self.s.air()
-        self.assertFalse(self.s.wants_air())
+        self.assertEqual((self.wants(), self.s._log_size()), ((False, False), 0))
+        self.fill_the_log(210_000)
+        self.assertEqual(self.wants(), (False, True))
+
+    def test_a_log_that_cannot_begin_anew_is_let_grow(self):
+        """Else each look would end the snapshots of pages, for nothing."""
+        self.s.max_log = 400_000
+        self.fill_the_log(410_000)
+        self.s.air()  # with a snapshot open, as of another process
+        left = self.s._log_size()
+        self.assertGreater(left, 400_000)
+        self.assertEqual(self.wants(), (False, False))
+        self.s._aired -= 11
+        self.assertEqual(self.wants(), (False, True))
+        self.fill_the_log(left + 210_000)
+        self.s._aired += 11
+        self.assertEqual(self.wants(), (False, True))
+        self.fill_the_log(left + 410_000)
+        self.assertEqual(self.wants(), (True, True))
+        self.held.close()
+        self.s.air()
+        self.assertEqual((self.wants(), self.s._log_size()), ((False, False), 0))
+
+    def test_a_log_that_began_anew_by_another_process(self):
+        self.s.max_log = 400_000
+        self.fill_the_log(410_000)
+        self.s.air()
+        self.held.close()
+        self.ask("PRAGMA wal_checkpoint(TRUNCATE)")
+        self.assertEqual((self.wants(), self.s._log_size()), ((False, False), 0))
+        self.fill_the_log(410_000)
+        self.assertEqual(self.wants(), (True, True))
+
+    def test_what_another_process_does_with_the_log_ends_no_snapshot(self):
+        self.ask("INSERT INTO items (id) VALUES (1)")
+        self.look()
+        self.ask("UPDATE items SET v = 7")
+        for text in ("PRAGMA wal_checkpoint(PASSIVE)", "PRAGMA wal_checkpoint(RESTART)", "PRAGMA wal_checkpoint(TRUNCATE)", "VACUUM"):
+            program = f"import sqlite3; sqlite3.connect({self.path!r}, timeout=0.1, isolation_level=None).execute({text!r}).fetchall()"
+            subprocess.run([sys.executable, "-c", program], check=True)
+            self.assertEqual(self.db().row("items", id=1)["v"], 0)
+        self.assertEqual(self.look(), "the schema of the file was changed")  # VACUUM counts as that
+        self.assertEqual(self.db().row("items", id=1)["v"], 7)
 
 
 class Command(Case):
@@ -340,6 +395,7 @@ class Command(Case):
         self.assertEqual(run("install", "shop:cache"), (0, ["items: installed"]))
         self.assertEqual(run("install", "shop:cache.store"), (0, ["items: stands"]))
         self.assertEqual(run("check", "shop:cache"), (0, ["all triggers stand"]))
+        self.assertRaisesRegex(ValueError, "no roles", SqliteStore(self.path, {"items": ["id"]}).check, "app")
         self.assertEqual(run("purge", "shop:cache"), (0, ["0 notes deleted"]))
         self.assertEqual(run("uninstall", "shop:cache"), (0, ["items: uninstalled"]))
         self.assertEqual(self.ask("SELECT name FROM sqlite_master WHERE name LIKE 'txcache%'"), [])

@@ -6,8 +6,9 @@ import time
 import unittest
 
 from txcache._store import db_of
-from txcache.errors import SnapshotLost
+from txcache.errors import SnapshotLost, SnapshotRefused
 
+from . import until
 from .cases import Case, over_each_store
 
 
@@ -110,8 +111,77 @@ class Threads(Case):
         go_on.set()
         looking.join()
 
+    def many_that_look(self, look, count=8):
+        """Has threads begin a page each that wants a new snapshot, of which one looks once all wait. Returns their values or errors, and how many looked."""
+        cache, said, looks, own = self.cache, [], [], self.cache.store.look
+        asked, lock = [], threading.Lock()
+        take = cache._look
+
+        def note_and_take(*words):
+            with lock:
+                asked.append(1)
+            take(*words)
+
+        def wait_and_look(*words, **named):
+            looks.append(1)
+            self.assertTrue(until(lambda: len(asked) == count))
+            time.sleep(0.3)  # until the last waits for its turn
+            return look(own, *words, **named)
+
+        def begin():
+            try:
+                with cache.read(max_age=0.05):
+                    said.append(self.balance(0))
+            except SnapshotLost as error:
+                said.append(type(error))
+
+        cache._look, cache.store.look = note_and_take, wait_and_look
+        threads = [threading.Thread(target=begin) for _ in range(count)]
+        for it in threads:
+            it.start()
+        for it in threads:
+            it.join()
+        cache._look, cache.store.look = take, own
+        return said, len(looks)
+
+    def test_a_lock_of_the_database_is_waited_for_once(self):
+        """And not by each thread that wants a snapshot, one behind the other."""
+        self.open(refresh=1000.0)
+        self.page((self.balance, 0))
+        time.sleep(0.06)
+
+        def refuse(*words, **named):
+            raise SnapshotRefused("a lock")
+
+        self.assertEqual(self.many_that_look(refuse), ([SnapshotRefused] * 8, 1))
+        self.write("UPDATE accounts SET balance = 5 WHERE id = 0")
+        self.assertEqual(self.page((self.balance, 0), max_age=0.0), [5])  # what failed before is over
+
+    def test_a_failure_is_over_once_another_look_succeeds(self):
+        cache = self.open(refresh=1000.0)
+        self.page((self.balance, 0))
+        cache._failure = SnapshotRefused("before")
+        cache._look()
+        self.assertIsNone(cache._failure)
+
+    def test_a_page_of_hits_waits_for_no_lock_that_was_just_waited_for(self):
+        """It looks once `refresh` seconds have gone since the last look ended, not since it began."""
+        cache, ended = self.open(refresh=1000.0), []
+        self.page((self.balance, 0))
+
+        def refuse(*words, **named):
+            time.sleep(0.05)
+            ended.append(time.monotonic())
+            raise SnapshotRefused("a lock")
+
+        cache.store.look = refuse
+        self.assertRaises(SnapshotRefused, self.page, (self.balance, 0), max_age=0.0)
+        self.assertGreaterEqual(cache._last_try, ended[0])
+        self.assertEqual(self.page((self.balance, 0)), [100])
+        self.assertEqual(len(ended), 1)
+
     def test_a_page_that_begins_within_a_cold_step(self):
-        """What is cached from before seems to hold at the pin of a cold step, of which no tags are known: no page may have both."""
+        """A result that is cached from before seems to hold at the pin of a cold step, of which no tags are known: no page may have both."""
         cache = self.open(refresh=1000.0)
         self.page((self.balance, 0))
         self.write("UPDATE accounts SET balance = 93 WHERE id = 0", "UPDATE accounts SET balance = 107 WHERE id = 1")

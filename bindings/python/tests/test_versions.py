@@ -1,5 +1,6 @@
 """The site beneath a cache: what threads have of their own in it."""
 
+import ctypes
 import threading
 import time
 import unittest
@@ -91,6 +92,12 @@ class Rooms(unittest.TestCase):
         with mock.patch("txcache._versions._CALL", side_effect=KeyboardInterrupt):
             self.assertRaises(KeyboardInterrupt, self.versions.call, self.begun(), self.key(0))
         self.assertEqual(len(self.versions._free), before - 1)
+
+    def test_its_rows_are_in_the_plain_store(self):
+        with mock.patch.object(_versions._TXC, "site_open", side_effect=_versions._TXC.site_open) as opened:
+            _versions.Versions(64).close()
+        (_, settings), = [it.args for it in opened.call_args_list]
+        self.assertEqual((settings.size, settings.store), (ctypes.sizeof(_calls.Settings), _calls.STORE_PLAIN))
 
     def test_without_the_interpreters_lock_calls_take_turns(self):
         at_once, most = [0], [0]

@@ -49,7 +49,7 @@ class Frameworks(unittest.TestCase):
 
 
 class Requests(OfSqlite, Case):
-    """What the applications of a test do with `start_response`."""
+    """Applications of a test, by their use of `start_response`."""
 
     def app(self, body):
         self.open()

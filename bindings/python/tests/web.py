@@ -8,7 +8,7 @@ from txcache.errors import SnapshotLost
 
 
 class Views:
-    """What each application shows. `lost` says how often the next calls of `shaky` lose their snapshot."""
+    """The views of each application. `lost` says how often the next calls of `shaky` lose their snapshot."""
 
     def __init__(self, cache):
         self.cache, self.lost, self.made, self.computed = cache, 0, 0, 0

@@ -9,7 +9,7 @@ import os
 import sys
 from typing import Any, List
 
-from .errors import NotInstalled
+from .errors import NotInstalled, TxCacheError
 
 
 def found(place: str) -> Any:
@@ -31,7 +31,7 @@ def lines_of(command: str, store: Any, reader: str) -> List[str]:
         return [f"{store.purge()} notes deleted"]
     if command == "uninstall":
         return store.uninstall()
-    faults = store.check()
+    faults = store.check(reader)
     if faults:
         raise NotInstalled(faults)
     return ["all triggers stand"]
@@ -42,7 +42,7 @@ def main() -> int:
     parser.add_argument("command", choices=["install", "check", "purge", "uninstall"])
     parser.add_argument("cache", metavar="MODULE:CACHE", help="a TxCache, or its store")
     parser.add_argument("--dsn", help="another connection string, as of the tables' owner")
-    parser.add_argument("--reader", metavar="ROLE", help="install: the role of the services, which alone reads the notes")
+    parser.add_argument("--reader", metavar="ROLE", help="the role of the services: install has it alone read the notes, and check looks whether it may")
     words = parser.parse_args()
     sys.path.insert(0, os.getcwd())
     store = found(words.cache)
@@ -55,6 +55,9 @@ def main() -> int:
         return 0
     except NotInstalled as error:
         print(*error.lines, sep="\n")
+        return 1
+    except TxCacheError as error:
+        print(error)
         return 1
 
 

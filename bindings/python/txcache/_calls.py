@@ -12,11 +12,12 @@ from .node import _Handle, _Key, _Totals
 DONE, MISS, NO_ROOM, CLOSED, ALREADY_OPEN, BAD_ARGUMENT, NO_MEMORY = 0, 1, 3, 4, 5, 6, 11
 COMPUTE, ANSWERED, NOT_OPEN, MID_CALL, REFUSED = range(12, 17)
 CONFLICT = 18
+STORE_SQL, STORE_PLAIN = 0, 1  # where a site keeps its rows
 
 
 class Settings(c.Structure):
     _fields_ = [("size", c.c_size_t), ("events", c.c_size_t), ("capacity", c.c_size_t), ("recent", c.c_size_t), ("renew_after", c.c_uint64),
-                ("bytes", c.c_size_t)]
+                ("bytes", c.c_size_t), ("store", c.c_size_t)]
 
 
 class Row(c.Structure):
@@ -40,7 +41,7 @@ HAS_ONE_AT_A_TIME = sys.implementation.name == "cpython" and getattr(sys, "_is_g
 
 
 def declared(long_ones=LONG):
-    """Returns the calls by their names. All but the long ones keep the interpreter's lock: to let go of it costs more than most calls take."""
+    """Returns the calls by their names. All but the long ones keep the interpreter's lock: its release costs more than most calls take."""
     short, long = _library.load(c.PyDLL), _library.load(c.CDLL)
     size, u8, u32, u64 = c.c_size_t, c.c_uint8, c.c_uint32, c.c_uint64
     number, txn, out, text = c.POINTER(u32), c.POINTER(u64), [c.c_char_p, size, c.POINTER(size)], [c.c_char_p, size]
@@ -63,7 +64,7 @@ def declared(long_ones=LONG):
 
 
 def undeclared(name):
-    """Returns a short call whose arguments are objects of C already: then nothing is looked at or made anew, which takes a third of a hit."""
+    """Returns a short call whose arguments are objects of C already: then ctypes neither checks nor converts them, which takes a third of a hit."""
     function = _library.load(c.PyDLL)[f"txc_{name}"]
     function.restype = c.c_uint32
     return function

@@ -39,7 +39,7 @@ class Works:
         self._lock = threading.Lock()
 
     def wait(self, key: bytes, may_read: Callable[[int], bool]) -> None:
-        """Waits for another thread that computes the call in a snapshot which the page may read too. Calls go down by levels, so nobody waits in a circle."""
+        """Waits for another thread that computes the call in a snapshot which the page may read too. Calls go down by levels, so no threads wait in a circle."""
         with self._lock:
             works = list(self.known.get(key, ()))
         found = next((it for it in works if it.stamp is not None and it.owner != threading.get_ident() and may_read(it.stamp)), None)

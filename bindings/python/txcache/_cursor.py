@@ -18,7 +18,7 @@ _NO_FILE = sqlite3.connect(":memory:", check_same_thread=False)  # to which a cu
 
 
 class Source:
-    """How connections that run statements are made, and their cursors: here as the store makes its own. Connections of one source are lent to no other."""
+    """The makers of connections that run statements, and of their cursors: here as the store makes its own. Connections of one source are lent to no other."""
 
     settings = ""  # what each transaction on PostgreSQL sets for itself, in SQL
 

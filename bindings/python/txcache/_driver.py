@@ -49,7 +49,7 @@ class Link:
         return self.named(text, args)[1]
 
     def run(self, statement: Statement) -> Result:
-        """Returns all that the statement of a function gives, over a cursor as that wants it."""
+        """Returns all that the statement of a function gives, over a cursor of the kind that the statement names."""
         with self.lock:
             return run(self._connection, statement)
 

@@ -169,7 +169,7 @@ static Key *known_key(Site *self, PyObject *known, PyObject *args)
     PyObject *found = PyDict_GetItemWithError(known, args);
     if (found == NULL) {
         if (PyErr_ExceptionMatches(PyExc_TypeError))
-            PyErr_Clear(); /* an argument without a hash is no plain data: whoever encodes it says so */
+            PyErr_Clear(); /* an argument without a hash is no plain data: the encoder says so */
         return NULL;
     }
     if ((PyObject *)Py_TYPE(found) != self->key_type) {
@@ -440,7 +440,7 @@ static PyMethodDef SITE_METHODS[] = {
 
 static PyType_Slot SITE_SLOTS[] = {
     {Py_tp_new, site_new}, {Py_tp_dealloc, site_free}, {Py_tp_methods, SITE_METHODS},
-    {Py_tp_doc, "Site(library, owner, address, key_type, refused): the calls of a site. Whoever calls it has kept it open."}, {0, NULL},
+    {Py_tp_doc, "Site(library, owner, address, key_type, refused): the calls of a site, which its owner keeps open."}, {0, NULL},
 };
 
 static PyType_Spec SITE_SPEC = {"txcache._fast_c.Site", sizeof(Site), 0, Py_TPFLAGS_DEFAULT, SITE_SLOTS};

@@ -32,12 +32,13 @@ class _Held:
 
 class Follower:
     """Looks at a store. A snapshot has the number of its step. One in which nothing has changed has the number of the one before, and takes its place once
-    that is half as old as it may be. None stays open for longer than `hold` seconds, if somebody looks every `every` seconds."""
+    that is half as old as it may be. None stays open for longer than `hold` seconds, if its owner looks every `every` seconds. `is_read` returns True if a page
+    is open, which may lose a snapshot."""
 
-    def __init__(self, store: Store, hold: float, clock: Callable[[], float] = time.monotonic, every: float = 0.0):
+    def __init__(self, store: Store, hold: float, clock: Callable[[], float] = time.monotonic, every: float = 0.0, is_read: Callable[[], bool] = lambda: True):
         if hold <= 0:
             raise ValueError(f"hold is {hold} seconds, and is more than 0")
-        self.store, self.hold, self._clock, self._every = store, hold, clock, min(every, hold / 4)
+        self.store, self.hold, self._clock, self._every, self._is_read = store, hold, clock, min(every, hold / 4), is_read
         self._held: List[_Held] = []
         self._lock, self._looks = threading.Lock(), threading.Lock()
         self._mark: Any = None
@@ -46,14 +47,14 @@ class Follower:
         self.oldest: Optional[int] = None  # the number from which on all snapshots are open
 
     def look(self) -> Step:
-        """Takes a new snapshot. Fails with SnapshotRefused, and lets all go so that whoever changes a table goes on; with SnapshotLost if the
-        server is away; with NotInstalled. After each the next look follows on from the last snapshot that was taken."""
+        """Takes a new snapshot. Fails with SnapshotRefused, and closes all so that a transaction that changes a table continues; with SnapshotLost
+        if the server is away; with NotInstalled. After each the next look follows on from the last snapshot that was taken."""
         with self._looks:
             self._let_old_go()
             moment = self._clock()
             if moment - self._aired > AIR_EVERY:
                 self._aired = moment
-                if self.store.wants_air():
+                if self.store.wants_air(self._is_read()):
                     self.let_go()
                     self.store.air()
                     moment = self._clock()
@@ -116,7 +117,7 @@ class Follower:
             self._close_if(lambda it: it.taken < limit)
 
     def trim(self, most: int, most_used: int) -> None:
-        """Closes the oldest snapshots that nobody uses, so that at most `most` are open, and then the oldest, so that at most `most_used` are."""
+        """Closes the oldest snapshots that no page uses, so that at most `most` are open, and then the oldest, so that at most `most_used` are."""
         count = len(self._held) - most
         if count == 1 and not self._uses:
             over = {self._held[0].number}

@@ -1,6 +1,6 @@
 """The parts of keys beside arguments: the level of each function, and the tables that each query was found to read.
 
-What a key asks never changes. So where a function's level rises, or its query is found to read another table, its keys are new, and those of all that
+The reads of a key's call never change. So where a function's level rises, or its query is found to read another table, its keys are new, and those of all that
 are known to call it. A `Forms` never changes: one outermost call uses one throughout."""
 
 import threading

@@ -51,7 +51,7 @@ class Hand:
             raise
 
     def _ask(self, tags: Mapping[str, str]) -> None:
-        """Names what is read, where somebody is to know it."""
+        """Notes what is read, if a result depends on it."""
 
     def _run(self, statement: Statement) -> Result:
         raise NotImplementedError
@@ -82,7 +82,7 @@ class Hand:
 
 
 class HandOfSnapshot(Hand):
-    """With no cache: in one snapshot, and nobody is to know what is read."""
+    """Reads with no cache, in one snapshot, and keeps no account of what it reads."""
 
     __slots__ = ("_snapshot",)
 
@@ -95,7 +95,7 @@ class HandOfSnapshot(Hand):
 
 
 class HandOfFrame(Hand):
-    """Of a function that is computed for a page. The tables that its statements were found to read are remembered by the function."""
+    """The hand of a function that is computed for a page. The function remembers the tables that its statements were found to read."""
 
     __slots__ = "_page", "_frame"
 

@@ -88,7 +88,7 @@ def prefix_of(lookup: Columns) -> str:
 
 class Read(NamedTuple):
     """A query, its arguments, and the tags of what it reads; None where they are the tables that it is found to read. `wholes` are the tags of
-    their tables, which may stand in their place."""
+    their tables, which may be used instead."""
 
     query: str
     args: Tuple[Any, ...]
@@ -113,7 +113,7 @@ class Relation:
 
 
 class _Way:
-    """How rows of a table are looked up by some of its columns: what is the same each time. Fails with ValueError if the store was not told of them."""
+    """The lookup of a table's rows by some of its columns: the parts that are the same each time. Fails with ValueError if the store was not told of them."""
 
     def __init__(self, relation: Relation, columns: Iterable[str]):
         lookup = tuple(sorted(columns))
@@ -228,8 +228,8 @@ class Db:
         return self._run(Read(query, tuple(args), None) if found is None else Read(query, tuple(args), tuple(found), tuple(found.values())))
 
     def cursor(self, **words: Any) -> "Cursor":
-        """Returns a DB-API cursor that reads in the snapshot until the function has returned. `words` are those of the driver's own `cursor()`. What it
-        reads is found as of `sql`, and remembered by the function, unless `reads` has named it."""
+        """Returns a DB-API cursor that reads in the snapshot until the function has returned. `words` are those of the driver's own `cursor()`. Its
+        reads are found as those of `sql`, and remembered by the function, unless `reads` has named it."""
         return self.hand.cursor(words=words)
 
     def reads(self, *tags: Union[str, Sequence[Any]]) -> None:

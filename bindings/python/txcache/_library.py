@@ -3,7 +3,7 @@
 import ctypes
 import os
 
-ABI = 3
+ABI = 4
 _HERE = os.path.dirname(os.path.abspath(__file__))
 _NAME = "libtxc_c.so"
 

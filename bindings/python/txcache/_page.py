@@ -33,7 +33,7 @@ _process = os.getpid()
 
 
 def note_fork() -> None:
-    """Of a child after a fork: the pages that stand open are its parent's."""
+    """Notes, in a child after a fork, that the pages which are open are its parent's."""
     global _process
     _process = os.getpid()
 
@@ -51,7 +51,7 @@ class Receipt:
 
 
 class Page:
-    """The reads of a block of `TxCache.read`. Its receipt is there once the block has ended."""
+    """The reads of a block of `TxCache.read`. It has a receipt once the block has ended."""
 
     # most pages change few of these, and so each begins with its class's
     _frames: Sequence[Frame] = ()  # the functions that stand open
@@ -300,7 +300,7 @@ class Page:
             self._end_hand(around)
 
     def _end_hand(self, around: Optional[Hand]) -> None:
-        """Ends what the function that runs reads by hand; the one around it, if there is one, goes on."""
+        """Ends what the function that runs reads by hand; the one around it, if there is one, continues."""
         hand, self.hand = self.hand, around
         hand.close()
 
@@ -310,7 +310,7 @@ class Page:
         self.cache._versions.give_up(self._txn)
 
     def _renew(self) -> None:
-        """Begins the page anew, of which nothing was shown."""
+        """Begins the page again, of which nothing was shown."""
         self._has_renewed = True
         self._stamp = self._snapshot = None
         self._leave_snapshots()
@@ -407,7 +407,7 @@ class Page:
             self.cache._follower.leave(it)
 
     def _in_snapshot(self, read: Callable[[Snapshot], Any]) -> Any:
-        """Reads in the snapshot of the next query. If that was let go meanwhile, for one in which nothing had changed, in that one."""
+        """Reads in the snapshot of the next query. If that was closed meanwhile, for one in which nothing had changed, in that one."""
         snapshot = self._snapshot_now()
         try:
             return read(snapshot)
@@ -431,7 +431,7 @@ class Page:
     # ---- audit
 
     def _audit(self) -> None:
-        """Computes what was shown once more, uncached, in the one snapshot of the receipt."""
+        """Computes what was shown again, uncached, in the one snapshot of the receipt."""
         token = PAGE.set(self)
         try:
             self._direct = self.cache._follower.snapshot(self.receipt.snapshot)

@@ -39,7 +39,7 @@ END
 
 # The question of a look, in one statement whose plans the server keeps: the snapshot's numbers, the server's, the number that was purged last, the shape of the
 # tables; and the tags of rows that the snapshot sees and one did not that had seen all below `beyond` but those `running`. The server's own processes have
-# other numbers once it has begun anew after one of its processes died; its start time is then as it was.
+# other numbers once it has started again after one of its processes died; its start time is then as it was.
 _LOOK = """
 BEGIN
     SELECT pg_current_snapshot()::text, concat(s.system, ' ', (SELECT oid FROM pg_database WHERE datname = current_database()), ' ',
@@ -97,7 +97,8 @@ INSERT INTO txcache.state SELECT system_identifier, pg_snapshot_xmin(pg_current_
     WHERE NOT EXISTS (SELECT FROM txcache.state);
 """
 
-# Plans that are kept go by the indexes: a catalog, or the notes, may be short when the plan is made. What has no index then seems dear, and would be compiled.
+# Plans that are kept go by the indexes: a catalog, or the notes, may be short when the plan is made. A scan without an index then seems
+# expensive, and would be compiled.
 _PLANS = "SET plan_cache_mode = force_generic_plan SET enable_seqscan = off SET jit = off"
 _LOOK_OF = "txcache.look(oid[], xid8, xid8[], text[], integer)"
 
@@ -192,7 +193,7 @@ END
 
 
 def noted(text: str, name: Name) -> Optional[FrozenSet[Columns]]:
-    """Returns the lookups that a trigger function notes, if this version wrote it for this table, and nobody changed it since."""
+    """Returns the lookups that a trigger function notes, if this version wrote it for this table, and it was not changed since."""
     head = re.match(r"-- (.*)\n", text)
     try:
         version, _, lookups = json.loads(head[1]) if head else (None, None, None)
@@ -306,6 +307,15 @@ class Catalog:
             return f"the trigger on {{}} does not note {', '.join(map(' and '.join, sorted(wanted - notes)))}"
         return ""
 
+    def faults_of_reading(self, reader: Optional[str]) -> List[str]:
+        """Returns which tables this role, or the role `reader`, may not read."""
+        lines = []
+        for role in _roles(self.link, reader):
+            query = _MAY_NOT_SELECT.format(oids=array(it.oid for it in self.found.values()), role=role.text)
+            refused = {oid for oid, in self.link.ask(query)} if self.found else set()
+            lines += [f"{given}: {role} may not read it: GRANT SELECT, and USAGE of its schema" for given, it in self.found.items() if it.oid in refused]
+        return lines
+
     def layout(self) -> Layout:
         """Returns the tables for readers."""
         relations = []
@@ -320,12 +330,34 @@ _WITH_TRIGGERS = "r", "p"  # kinds of relations: ordinary and partitioned tables
 _KIND_NAMES = {"v": "a view", "m": "a materialized view", "f": "a foreign table", "S": "a sequence", "c": "a composite type", "i": "an index"}
 
 
-_MAY_READ = f"""SELECT has_schema_privilege(%s, 'txcache', 'USAGE'), has_table_privilege(%s, 'txcache.notes', 'SELECT'), has_table_privilege(%s, 'txcache.state', 'SELECT'),
-    has_function_privilege(%s, 'txcache.shape(oid[])', 'EXECUTE'), has_function_privilege(%s, '{_LOOK_OF}', 'EXECUTE'),
-    has_function_privilege(%s, 'txcache.purge(double precision)', 'EXECUTE')"""
+_MAY_FOLLOW = f"""SELECT has_table_privilege({{role}}, 'txcache.notes', 'SELECT'), has_table_privilege({{role}}, 'txcache.state', 'SELECT'),
+    has_function_privilege({{role}}, 'txcache.shape(oid[])', 'EXECUTE'), has_function_privilege({{role}}, '{_LOOK_OF}', 'EXECUTE')"""
+_MAY_READ = f"{_MAY_FOLLOW}, has_schema_privilege({{role}}, 'txcache', 'USAGE'), has_function_privilege({{role}}, 'txcache.purge(double precision)', 'EXECUTE')"
+
+
+_MAY_NOT_SELECT = """SELECT c.oid::bigint FROM pg_class c WHERE c.oid = ANY ({oids})
+    AND NOT (has_table_privilege({role}, c.oid, 'SELECT') AND has_schema_privilege({role}, c.relnamespace, 'USAGE'))"""
 
 
 _TEXTS = {"shape": _SHAPE, "look": _LOOK, "purge": _PURGE}
+
+
+class _Role(NamedTuple):
+    """A role as it stands in SQL, and as it is told of."""
+
+    text: str
+    label: str
+
+    def __str__(self) -> str:
+        return self.label
+
+
+def _roles(link: Link, reader: Optional[str]) -> List[_Role]:
+    """Returns this role; and the role `reader`, if that is named and there is such."""
+    found = [_Role("current_user", "this role")]
+    if reader is not None and link.ask("SELECT FROM pg_roles WHERE rolname = %s", (reader,)):
+        found.append(_Role(literal(reader), f"the role {reader}"))
+    return found
 
 
 def _comment(link: Link) -> Optional[str]:
@@ -338,22 +370,29 @@ def _functions(link: Link) -> Dict[str, str]:
                          "WHERE n.nspname = 'txcache' AND p.proname IN ('shape', 'look', 'purge')"))
 
 
-def faults_of_schema(link: Link) -> List[str]:
-    """Returns why the schema `txcache` can't be read from."""
+def faults_of_schema(link: Link, reader: Optional[str] = None) -> List[str]:
+    """Returns why this role, or the role `reader`, can't read from the schema `txcache`."""
     comment = _comment(link)
     if comment != COMMENT:
         return [f"the schema txcache is {'not there' if comment is None else repr(comment)}, and not {COMMENT!r}"]
     if _functions(link) != _TEXTS:
         return [f"the functions of the schema txcache are not those of version {VERSION}"]
-    if not link.ask("SELECT has_schema_privilege('txcache', 'USAGE')")[0][0]:
-        return ["this role may not use the schema txcache: install --reader ROLE"]
-    (may_read, may_call), = link.ask("SELECT has_table_privilege('txcache.notes', 'SELECT') AND has_table_privilege('txcache.state', 'SELECT'), "
-                                     f"has_function_privilege('txcache.shape(oid[])', 'EXECUTE') AND has_function_privilege('{_LOOK_OF}', 'EXECUTE')")
-    if not (may_read and may_call):
-        return ["this role may not read the notes: install --reader ROLE"]
+    roles = _roles(link, reader)
+    if reader is not None and len(roles) == 1:
+        return [f"there is no role {reader}"]
+    for role in roles:
+        if not link.ask(f"SELECT has_schema_privilege({role.text}, 'txcache', 'USAGE')")[0][0]:
+            return [f"{role} may not use the schema txcache: install --reader ROLE"]
+        if not all(link.ask(_MAY_FOLLOW.format(role=role.text))[0]):
+            return [f"{role} may not read the notes: install --reader ROLE"]
     if link.ask("SELECT system FROM txcache.state") != link.ask("SELECT system_identifier FROM pg_control_system()"):
         return ["the notes are those of another server, as of a restored dump"]
     return []
+
+
+def own_of(standing: Iterable[Standing]) -> List[Standing]:
+    """Returns the triggers of ours that stand on a table itself, and so on its partitions."""
+    return [it for it in standing if it.is_root and it.is_own]
 
 
 class Installer:
@@ -370,10 +409,10 @@ class Installer:
             raise
 
     def schema(self, reader: Optional[str]) -> None:
-        """Makes the objects that a database has once. Those that exist are left alone: tables that snapshots read would be waited for."""
+        """Makes the objects that a database has once. Objects that exist are left alone: tables that snapshots read would be waited for."""
         stands = _comment(self._link) == COMMENT and _functions(self._link) == _TEXTS
         self._transaction(("" if stands else _TABLES + _FUNCTIONS) + _STATE)
-        if reader and not all(self._link.ask(_MAY_READ, (reader,) * 6)[0]):
+        if reader and not all(self._link.ask(_MAY_READ.format(role=literal(reader)))[0]):
             self._transaction(_READER.format(role=quote(reader)))
 
     def table(self, found: Found, lookups: FrozenSet[Columns], standing: Iterable[Standing]) -> bool:
@@ -404,17 +443,16 @@ class Installer:
         words += [f"ALTER TABLE {it} ENABLE ALWAYS TRIGGER {name}" for it in places]
         return "; ".join(words)
 
-    def uninstall_table(self, standing: Iterable[Standing]) -> bool:
-        """Drops a table's trigger and its function. Returns False if there was none."""
-        mine = [it for it in standing if it.is_root and it.is_own]
-        if mine:
-            self._transaction("; ".join(f"DROP TRIGGER {quote(it.trigger)} ON {it.place}; DROP FUNCTION {it.function}" for it in mine))
-        return bool(mine)
-
-    def uninstall_schema(self) -> bool:
-        """Drops the schema, if no table of another service has its trigger still."""
-        (others,), = self._link.ask("SELECT count(*) FROM pg_trigger g JOIN pg_proc p ON p.oid = g.tgfoid JOIN pg_namespace n ON n.oid = p.pronamespace "
-                                    "WHERE n.nspname = 'txcache'")
-        if not others:
-            self._transaction("DROP SCHEMA IF EXISTS txcache CASCADE")
+    def uninstall(self, tables: Iterable[Iterable[Standing]]) -> bool:
+        """Drops the triggers of tables with their functions, and the schema if no table of another service has its trigger still, all or nothing. Returns
+        False if the schema stays."""
+        texts = sorted(f"DROP TRIGGER {quote(it.trigger)} ON {it.place}; DROP FUNCTION {it.function}" for standing in tables for it in own_of(standing))
+        try:
+            self._link.ask(f"BEGIN ISOLATION LEVEL READ COMMITTED; {'; '.join([self._limit.rstrip('; '), *texts])}")
+            (others,), = self._link.ask("SELECT count(*) FROM pg_trigger g JOIN pg_proc p ON p.oid = g.tgfoid JOIN pg_namespace n ON n.oid = p.pronamespace "
+                                        "WHERE n.nspname = 'txcache'")
+            self._link.ask("COMMIT" if others else "DROP SCHEMA IF EXISTS txcache CASCADE; COMMIT")
+        except self._link.driver.Error:
+            self._link.ask("ROLLBACK")
+            raise
         return not others

@@ -1,7 +1,7 @@
 """A hot standby: what a snapshot of it has seen, and how old that is.
 
-A snapshot of a standby lists no transaction as in progress, so that its numbers alone do not say which ones it sees. What says it is the numbers of the
-transactions whose notes it has, from its xmin on: all below are over.
+A snapshot of a standby lists no transaction as in progress, so that its numbers alone do not say which ones it sees. The numbers of the transactions whose
+notes it has, from its xmin on, say it: all below are over.
 """
 
 import time
@@ -81,7 +81,7 @@ class _Found(NamedTuple):
 
 
 class Replay:
-    """How far a standby is behind its primary. A look that found the primary connected knows one place of the log and when it had been received: once that is
+    """The delay of a standby behind its primary. A look that found the primary connected knows one place of the log and when it had been received: once that is
     replayed, what the standby shows is no older."""
 
     def __init__(self) -> None:

@@ -33,7 +33,7 @@ class Snapshot(Protocol):
 
 class Look(NamedTuple):
     """A new snapshot, where it stands among the database's commits, and the tags of what changed since the last; None and why where that
-    is not known, and all that is cached must go. No snapshot where nothing has changed since, and none was wanted. `delay` is how many seconds
+    is not known, and all that is cached must go. No snapshot if nothing has changed since, and none was asked for. `delay` is how many seconds
     before it was taken it may stand, as on a server that follows another."""
 
     snapshot: Optional[Snapshot]
@@ -52,7 +52,7 @@ class Store(Protocol):
         """Has at most so many connections read, and snapshots that stay open for so many seconds."""
 
     def forget(self) -> Any:
-        """Of a child after a fork: returns all that its parent has open, which it may neither use nor close, and has none of its own."""
+        """Begins with nothing open, in a child after a fork. Returns all that its parent has open, which it may neither use nor close."""
 
     def purge(self, age: float) -> int:
         """Deletes the notes that a purge of so many seconds ago saw the end of. Returns how many."""
@@ -60,8 +60,8 @@ class Store(Protocol):
     def look(self, last: Any, is_wanted: bool = True) -> Look:
         """Takes a snapshot, and says what changed since the mark of the last. Fails with SnapshotRefused, SnapshotLost or NotInstalled."""
 
-    def wants_air(self) -> bool:
-        """Returns True if all snapshots must be let go, and `air` called."""
+    def wants_air(self, is_read: bool) -> bool:
+        """Returns True if all snapshots must be closed, and `air` called. It waits for longer if a page is open, which may lose one."""
 
     def air(self) -> None:
         """Does what no snapshot may be open for."""

@@ -1,25 +1,27 @@
-"""The site of a cache: its database is a table of versions, a row a place, and its transactions are the pages. All that the cache asks of the
-library is here. Threads share it, and no lock of ours is held: a call keeps the interpreter's own, so that it is alone, and gets its answer in a room that
-nobody else has meanwhile. (A lock would be held by a thread that waits for the interpreter's, behind all others, and for long where the machine is busy.)"""
+"""The site of a cache: its database is a table of versions, a row a place, and its transactions are the pages. All that the cache asks of the library is
+here. Its rows are in the library's plain store, since they are written a hundred times as often as one is asked for, and by its id alone.
+
+Threads share it, and no lock of ours is held: a call keeps the interpreter's own, so that it is alone, and gets its answer in a room that no other call has
+meanwhile. (A lock would be held by a thread that waits for the interpreter's, behind all others, and for long where the machine is busy.)"""
 
 import ctypes as c
 import struct
-import threading
 import time
 from types import SimpleNamespace
-from typing import Any, Callable, Dict, Iterable, List, NamedTuple, Optional, Sequence, Tuple
+from typing import Any, Callable, Iterable, List, NamedTuple, Optional, Sequence, Tuple
 
 from . import _calls
 from ._calls import ANSWERED, COMPUTE, DONE, MISS, NO_MEMORY, NO_ROOM
 from .errors import TxCacheError
 from .node import MAX_ASKS, MAX_VALUE_LEN, _Handle, _Key, _Totals
 
-MAX_CAPACITY = 65_536
+MAX_ENTRIES = 65_536  # of the node of a cache
 MAX_PINS = 1024
-MAX_PLACES = 65_536
+PLACES, MAX_PLACES = 1_048_576, 16_777_216  # by default, and at most
 UNCHANGING_PLACE = MAX_PLACES  # of no tag
-_TABLES = 16  # the version of a place is a row of one of so many tables, since an event names at most 16 rows of each
-_MOST_ROWS, _LEAST_ROWS = 15 * _TABLES, 8  # of an event
+_TABLES = 16  # the version of a place is a row of one of so many tables: the library has no more
+_ROWS_OF_A_TABLE = 15  # that an event names, beside their one group: with one more it would name the whole table
+_LONGEST_EVENT, _SHORTEST_EVENT = _ROWS_OF_A_TABLE * _TABLES, 8  # rows
 _LONG, _SHORT = 0.004, 0.001  # seconds that an event takes: beyond, the next is of half as many rows; below, of twice as many
 _EVER = 2**64 - 1  # a pin is never renewed: the present of the table of versions may be the middle of a step
 _QUICK = "call", "commit", "member_at", "read_stamp", "query_rows", "put"
@@ -47,7 +49,7 @@ class Member(NamedTuple):
 
 
 class Totals(NamedTuple):
-    """How many results there are, how many bytes their values have in all, and how many were dropped for the budget."""
+    """The number of results, the bytes of their values in all, and the number of results that were dropped for the budget."""
 
     entries: int
     bytes: int
@@ -100,7 +102,7 @@ class Versions:
         self._site, self._rows = _Handle(None, False), 4 * _TABLES
         self._at = c.byref(self._site)
         self._free: List[_Room] = []  # a room is taken from here for a call, and put back after it; one whose call failed is dropped
-        _do(_TXC.site_open, self._site, _calls.Settings(c.sizeof(_calls.Settings), 0, capacity, recent, _EVER))
+        _do(_TXC.site_open, self._site, _calls.Settings(c.sizeof(_calls.Settings), 0, capacity, recent, _EVER, 0, _calls.STORE_PLAIN))
 
     def close(self) -> None:
         self.trim(0)  # in steps
@@ -115,17 +117,19 @@ class Versions:
     # ---- steps
 
     def touch(self, places: Sequence[int], version: int) -> None:
-        """Gives these places a version. Threads go on between its events; no page reads its middle, since none reads the present. How long an event takes
+        """Gives these places a version. Other threads run between its events; no page reads its middle, since none reads the present. How long an event takes
         depends on how many results it closes, so that its rows become fewer or more."""
-        body, at = str(version).encode(), 0
-        while at < len(places):
-            some = places[at:at + self._rows]
-            took = self._put(some, body)
-            at += len(some)
-            if took > _LONG:
-                self._rows = max(_LEAST_ROWS, self._rows // 2)
-            elif took < _SHORT and len(some) == self._rows:
-                self._rows = min(_MOST_ROWS, self._rows * 2)
+        body = str(version).encode()
+        for layer in _layers(places):
+            at = 0
+            while at < len(layer):
+                some = layer[at:at + self._rows]
+                took = self._put(some, body)
+                at += len(some)
+                if took > _LONG:
+                    self._rows = max(_SHORTEST_EVENT, self._rows // 2)
+                elif took < _SHORT and len(some) == self._rows:
+                    self._rows = min(_LONGEST_EVENT, self._rows * 2)
 
     def _put(self, places: Sequence[int], body: bytes) -> float:
         """Returns the seconds of the event itself, which no other thread interrupts."""
@@ -164,12 +168,18 @@ class Versions:
         return Totals(totals.entries, totals.bytes, totals.trimmed)
 
     def trim(self, most: int) -> None:
-        """Drops the results that were used longest ago, until the values of the others have at most `most` bytes in all. Threads go on between its
+        """Drops the results that were used longest ago, until the values of the others have at most `most` bytes in all. Other threads run between its
         steps."""
         dropped, found = c.c_size_t(), self.totals()
         step = max(1, found.bytes * _TRIMMED // max(1, found.entries))
         for left in [*range(found.bytes - step, most, -step), most] if found.bytes > most else ():
             _do(_TXC.site_trim, self._site, left, dropped)
+
+    def is_read(self) -> bool:
+        """Returns True if a page is open."""
+        count = c.c_size_t()
+        _do(_TXC.open_transactions, self._site, count)
+        return count.value > 0
 
     # ---- pages
 
@@ -248,7 +258,7 @@ class Versions:
             raise _error(_TXC.query_rows, number)
 
     def finish(self, txn: c.c_uint64, data: bytes) -> None:
-        """Says what the function that the page computes gives. It is not told once more: there is no room."""
+        """Says what the function that the page computes gives. The library does not return it: there is no room."""
         room = self._room()
         number = _TXC.finish(self._at, txn, data, len(data), None, 0, room.size_at)
         self._free.append(room)
@@ -272,23 +282,37 @@ class Versions:
         _TXC.abort(self._site, txn)
 
 
-class Places:
-    """The places of tags, by a hash, at most `MAX_PLACES`; their numbers go in the order of first use, since a row at the end of a table is cheap."""
+def _layers(places: Sequence[int]) -> List[List[int]]:
+    """Deals places out to lists, each with at most `_ROWS_OF_A_TABLE` of each table."""
+    layers: List[List[int]] = []
+    counts = [0] * _TABLES
+    for place in places:
+        at = counts[place % _TABLES] // _ROWS_OF_A_TABLE
+        counts[place % _TABLES] += 1
+        if at == len(layers):
+            layers.append([])
+        layers[at].append(place)
+    return layers
 
-    def __init__(self) -> None:
-        self._numbers: Dict[int, int] = {}
-        self._lock = threading.Lock()
+
+class Places:
+    """The places of tags, by a hash: `count` of them, and two tags may share one, so that what depends on either is computed again for both. Its length
+    is how many have changed, and so have a row in the table of versions."""
+
+    def __init__(self, count: int = PLACES) -> None:
+        self.count, self._changed, self._length = count, bytearray(count), 0
 
     def __len__(self) -> int:
-        return len(self._numbers)
+        return self._length
 
     def of(self, tag: str) -> int:
-        slot = hash(tag) % MAX_PLACES
-        found = self._numbers.get(slot)
-        if found is None:
-            with self._lock:
-                found = self._numbers.setdefault(slot, len(self._numbers))
-        return found
+        return hash(tag) % self.count
 
-    def all_of(self, tags: Iterable[str]) -> Sequence[int]:
-        return sorted({self.of(it) for it in tags})
+    def changed(self, tags: Iterable[str]) -> Sequence[int]:
+        """Returns the places of tags that have changed, each once."""
+        places = sorted({hash(it) % self.count for it in tags})
+        for place in places:
+            if not self._changed[place]:
+                self._changed[place] = True
+                self._length += 1
+        return places

@@ -20,7 +20,7 @@ from ._page import LONGEST, Page, Receipt
 from ._pins import Pin, State
 from ._store import PURGE_AGE, Store
 from ._thread import Bell, keep_looking
-from ._versions import MAX_CAPACITY, MAX_PINS, Places
+from ._versions import MAX_ENTRIES, MAX_PINS, MAX_PLACES, PLACES, Places
 from .errors import AuditError, NotSeen, SnapshotLost
 
 __all__ = ["CacheInfo", "Function", "Page", "Receipt", "TxCache"]
@@ -40,16 +40,19 @@ _CACHES: "weakref.WeakSet[TxCache]" = weakref.WeakSet()
 class TxCache:
     """A cache beside a store. Nothing is opened before the first page.
 
-    `capacity` bounds its entries, and `max_bytes` the bytes of their values. A thread looks at the database every `refresh` seconds while pages are read; with `thread=False` a page looks as
-    it begins. No snapshot is open for longer than `hold` seconds. `connections` bounds those that read. `audit` is the share of pages that are
-    computed once more, uncached, and compared: a difference goes to `on_audit_error`, or is raised."""
+    `capacity` bounds its entries, `max_bytes` the bytes of their values, and `places` the rows of its table of versions, one for each tag that has changed.
+    A thread looks at the database every `refresh` seconds while pages are read; with `thread=False` a page looks as it begins.
+    No snapshot is open for longer than `hold` seconds. `connections` bounds those that read. `audit` is the share of pages that are computed again,
+    uncached, and compared: a difference goes to `on_audit_error`, or is raised."""
 
     def __init__(self, store: Store, capacity: int = 65_536, max_bytes: Optional[int] = None, refresh: float = 0.5, hold: float = 10.0, connections: int = 4,
-                 audit: float = 0.0, *, thread: bool = True, on_audit_error: Optional[Callable[[AuditError], None]] = None, versions: Callable[[int], Any] = FASTEST):
+                 audit: float = 0.0, *, places: int = PLACES, thread: bool = True, on_audit_error: Optional[Callable[[AuditError], None]] = None,
+                 versions: Callable[[int], Any] = FASTEST):
         if max_bytes is not None and max_bytes < 0:
             raise ValueError(f"max_bytes is {max_bytes}, and is at least 0")
-        if not 1 <= capacity <= MAX_CAPACITY:
-            raise ValueError(f"capacity is {capacity}, and is from 1 to {MAX_CAPACITY:,}")
+        for name, count, most in (("capacity", capacity, MAX_ENTRIES), ("places", places, MAX_PLACES)):
+            if not 1 <= count <= most:
+                raise ValueError(f"{name} is {count}, and is from 1 to {most:,}")
         if not 0 <= audit <= 1:
             raise ValueError(f"audit is {audit}, and is a share from 0 to 1")
         if connections < 1:
@@ -58,7 +61,8 @@ class TxCache:
             if not 0 < value < LONGEST:
                 raise ValueError(f"{name} is {value} seconds, and is more than 0 and less than {LONGEST:,.0f}")
         self.store, self.refresh, self.hold, self.audit, self.on_audit_error = store, refresh, hold, audit, on_audit_error
-        self._capacity, self._max_bytes, self._connections, self._has_thread, self._make_versions = capacity, max_bytes, connections, thread, versions
+        self._capacity, self._max_bytes, self._max_places, self._connections, self._has_thread = capacity, max_bytes, places, connections, thread
+        self._make_versions = versions
         self._functions: Dict[str, Function] = {}
         self._growth = Growth()
         self._reset()
@@ -66,13 +70,14 @@ class TxCache:
 
     def _reset(self) -> None:
         self._opening, self._stepping = threading.Lock(), threading.RLock()
-        self._works, self._places = Works(), Places()
+        self._works, self._places = Works(), Places(self._max_places)
         self._versions: Any = None
         self._follower: Optional[Follower] = None
         self._state = State()
         self._least: Tuple[Any, Optional[int], int] = (None, None, 0)  # of a state and the oldest open snapshot: the first stamp at which a page may begin
         self._numbers: Dict[int, int] = {}
         self._is_to_be_cold, self._steps = False, 0
+        self._failure: Optional[SnapshotLost] = None  # of the newest look that failed
         self._computed_bytes = 0  # since the last trim
         self._trimming = threading.Lock()
         self._bell: Optional[Bell] = None
@@ -121,7 +126,7 @@ class TxCache:
             self._state = self._state._replace(era=self._state.era + 1)
 
     def close(self) -> None:
-        """Ends the thread, the connections and the library's site. The next page opens all anew."""
+        """Ends the thread, the connections and the library's site. The next page opens all again."""
         with self._opening:
             if self._versions is None:
                 return
@@ -134,7 +139,7 @@ class TxCache:
 
     def stats(self) -> Dict[str, Any]:
         """Returns counts since the cache was opened; how many results are cached, and the bytes of their values; the age of its newest snapshot, in
-        seconds; the connections that read; the places of tags."""
+        seconds; the connections that read; the places of tags that have changed."""
         pins, versions = self._state.pins, self._versions
         entries, count, trimmed = versions.totals() if versions is not None else (0, 0, 0)
         return {"entries": entries, "bytes": count, "trimmed": trimmed, "hits": sum(it.hits for it in self._functions.values()), "computed": sum(it.computed for it in self._functions.values()), "lost": self._lost,
@@ -148,9 +153,10 @@ class TxCache:
             with self._opening:
                 if self._versions is None:
                     self.store.prepare(self._connections, self.hold)
-                    self._follower = Follower(self.store, self.hold, every=self.refresh + LOOK_TIME)
+                    versions = self._make_versions(self._capacity)
+                    self._follower = Follower(self.store, self.hold, every=self.refresh + LOOK_TIME, is_read=versions.is_read)
                     self._bell = Bell()
-                    self._versions = self._make_versions(self._capacity)
+                    self._versions = versions
                     if self._has_thread:
                         threading.Thread(target=keep_looking, args=(weakref.ref(self), self._bell, self.refresh), name="txcache", daemon=True).start()
 
@@ -186,9 +192,7 @@ class TxCache:
         """Takes a snapshot if the newest is too old for a page; or if none is open, or, with no thread, it is to be refreshed, and then if that fails a
         page may still have hits."""
         if self._is_older(begun - max_age):
-            with self._stepping:
-                if self._is_older(begun - max_age):
-                    self._look()
+            self._look(lambda: not self._is_older(begun - max_age))
         elif begun - self._last_try > self.refresh and (self._follower.oldest is None or not self._has_thread and self._is_older(begun - self.refresh)):
             self._look_again()
 
@@ -201,13 +205,25 @@ class TxCache:
         with contextlib.suppress(SnapshotLost):
             self._look()
 
-    def _look(self) -> None:
-        """Takes a snapshot: gives what changed a version, and then pins that. Nobody else does either meanwhile."""
+    def _look(self, is_enough: Callable[[], bool] = lambda: False) -> None:
+        """Takes a snapshot: gives what changed a version, and then pins that. Threads take turns. One that waited for its turn takes none if that of another
+        is enough; if another failed meanwhile, it fails too, so that threads wait once for a lock of the database, and not one behind the other."""
+        known = self._failure
         with self._stepping:
+            failure = self._failure
+            if failure is not None and failure is not known:
+                raise type(failure)(*failure.args)
+            if is_enough():
+                return
             self._last_try = time.monotonic()
             if self._is_to_be_cold:
                 self._follower.forget()
-            step = self._follower.look()
+            try:
+                step = self._follower.look()
+            except SnapshotLost as error:
+                self._failure, self._last_try = type(error)(*error.args), time.monotonic()
+                raise
+            self._failure = None
             self._is_to_be_cold = True  # until all of the step is done
             self._take(step)
             self._is_to_be_cold = False
@@ -217,7 +233,7 @@ class TxCache:
             # before there is a pin at which what is cached under the former number would seem to hold
             self._cold += 1
             self._state = State((), self._state.era + 1)
-        self._versions.touch(self._places.all_of(step.tags), step.number)
+        self._versions.touch(self._places.changed(step.tags), step.number)
         stamp = self._versions.pin(_us(step.moment))
         self._numbers[stamp] = step.number
         before, pin = self._state, Pin(stamp, step.moment, step.number, self._follower.mark)
@@ -268,7 +284,7 @@ class TxCache:
         return number
 
     def _finish(self, txn: Any, function: Function, data: bytes) -> None:
-        """Says what a function gives. In the place of a value that is too long for the library there is a mark, and the function is computed again
+        """Says what a function gives. A value that is too long for the library is replaced by a mark, and the function is computed again
         for each page: in any state in which the mark holds it gives the same."""
         if len(data) > self._versions.longest:
             if not function.is_too_long:
@@ -315,7 +331,7 @@ class TxCache:
                 LOG.debug("no notes were purged: %s", error)
 
     def _leave_to_the_parent(self) -> None:
-        """Of a child after a fork: begins cold, and touches nothing of its parent's."""
+        """Begins cold, in a child after a fork, and touches nothing of its parent's."""
         _INHERITED.append((self._versions, self._follower, self._works, self._stepping, self.store.forget()))
         self._growth = Growth()
         self._reset()

@@ -16,7 +16,7 @@ class NotInstalled(TxCacheError):
 
 
 class SnapshotLost(TxCacheError):
-    """A snapshot of the database ended before its time: its connection was lost, or it was let go."""
+    """A snapshot of the database ended before its time: its connection was lost, or it was closed."""
 
 
 class SnapshotRefused(SnapshotLost):

@@ -22,6 +22,7 @@ MAX_ARGS = 4
 LAST_TABLE = 15
 LAST_STAMP = 4_294_967_294
 MAX_CAPACITY = 1_048_576  # entries of a node
+MAX_RECENT = 4096  # events whose tags it keeps
 MAX_VALUE_LEN = 1_048_576
 MAX_ASKS = 4096  # of the functions of an outermost call, all together
 FIRST_ROOM = 1024  # a longer value is asked for twice
@@ -43,10 +44,10 @@ class OutOfOrder(Refused):
 
 _REFUSALS = {
     _CLOSED: "the node is closed",
-    _BAD_ARGUMENT: "a number is above its limit, or a size is 0",
-    _EMPTY_RANGE: "the range of stamps is empty",
-    _BAD_REACH: "the last stamp known is below the first",
-    _VALUE_TOO_LONG: f"the value is longer than {MAX_VALUE_LEN} bytes",
+    _BAD_ARGUMENT: f"a number is above its limit: a capacity is from 1 to {MAX_CAPACITY:,}, recent events from 1 to {MAX_RECENT:,}, a stamp at most {LAST_STAMP:,}",
+    _EMPTY_RANGE: "the range of stamps ends before it begins",
+    _BAD_REACH: "the last known stamp of the entry is below its first",
+    _VALUE_TOO_LONG: f"the value is longer than {MAX_VALUE_LEN:,} bytes",
 }
 
 
@@ -110,9 +111,9 @@ _TXC = _declared(_library.load())
 
 
 def _number(value, most):
-    """The number, which ctypes would cut to its type without a word."""
+    """Returns the number, which ctypes would cut to its type without a word. Fails with Refused if it is above a limit."""
     if not 0 <= value <= most:
-        raise Refused(_REFUSALS[_BAD_ARGUMENT])
+        raise Refused(f"{value} is not from 0 to {most:,}")
     return value
 
 
@@ -121,7 +122,7 @@ class Key:
 
     def __init__(self, function, *args):
         if len(args) > MAX_ARGS:
-            raise Refused(_REFUSALS[_BAD_ARGUMENT])
+            raise Refused(f"a call has at most {MAX_ARGS} arguments, and was given {len(args)}")
         for it in args:
             _number(it, 2**32 - 1)
         self.function, self.args = _number(function, LAST_FUNCTION), args
@@ -182,7 +183,7 @@ class Stored(NamedTuple):
 
 
 class Counts(NamedTuple):
-    """How often something was answered about the calls of one function."""
+    """Counts of the answers about the calls of one function."""
 
     lookups: int
     hits: int
@@ -192,7 +193,7 @@ class Counts(NamedTuple):
 
 
 class Totals(NamedTuple):
-    """How many entries a node holds, how many bytes their values have in all, and how many entries trims have dropped."""
+    """The number of entries of a node, the bytes of their values in all, and the number of entries that trims have dropped."""
 
     entries: int
     bytes: int

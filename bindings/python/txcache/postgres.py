@@ -1,7 +1,7 @@
 """A PostgreSQL database beside which a service caches.
 
 Triggers write a note of each changed row, beside the transaction's own number. A snapshot is a REPEATABLE READ transaction that stays open for
-some seconds. Which transactions ended between two snapshots the server says itself, so commits need no order and writers wait for nobody.
+some seconds. Which transactions ended between two snapshots the server says itself, so commits need no order and no writer waits.
 """
 
 import contextlib
@@ -15,9 +15,9 @@ from . import _standby
 from ._cursor import OWN, Cursor, Result, Source, Statement
 from ._driver import Link
 from ._layout import Layout, Name, Read, Row, dicts, literal, lookups_of
-from ._postgres_schema import Catalog, Installer, array, faults_of_schema
+from ._postgres_schema import Catalog, Installer, array, faults_of_schema, own_of
 from ._store import MAX_TAGS, PURGE_AGE, Look
-from .errors import NotInstalled, SnapshotLost, SnapshotRefused
+from .errors import NotInstalled, SnapshotLost, SnapshotRefused, TxCacheError
 
 CONNECTIONS = 4  # that read, unless a cache says otherwise
 LOCK_TIMEOUT = 0.5  # seconds for which a snapshot waits for the lock of a table
@@ -84,7 +84,7 @@ class PostgresStore:
         self.readers.limit = connections
 
     def forget(self) -> Any:
-        """Of a child after a fork: returns all that its parent has open, which it may neither use nor close, and has none of its own."""
+        """Begins with nothing open, in a child after a fork. Returns all that its parent has open, which it may neither use nor close."""
         inherited = vars(self).get("_spare"), vars(self).get("readers")
         self._tables: Optional[_Tables] = None
         self._replay = _standby.Replay()
@@ -128,11 +128,12 @@ class PostgresStore:
                 raise NotInstalled(faults + lines)
             return lines
 
-    def check(self) -> List[str]:
-        """Returns a line for each fault: none if the triggers stand, and this role can follow them."""
+    def check(self, reader: Optional[str] = None) -> List[str]:
+        """Returns a line for each fault: none if the triggers stand, and this role can follow them and read the tables; so can the role `reader`, if one is
+        named."""
         with contextlib.closing(self.connect()) as link:
             link.ask("BEGIN ISOLATION LEVEL REPEATABLE READ READ ONLY")
-            return self._faults(link, self._catalog_of(link))
+            return self._faults(link, self._catalog_of(link), reader)
 
     def purge(self, age: float = PURGE_AGE) -> int:
         """Deletes the notes of transactions that were over when a purge of `age` seconds ago or more looked. Returns how many."""
@@ -144,21 +145,27 @@ class PostgresStore:
             return deleted
 
     def uninstall(self) -> List[str]:
-        """Drops the triggers of these tables, and the schema where no other table has one. Returns a line for each table."""
+        """Drops the triggers of these tables, and the schema if no other table has one, in one transaction. Returns a line for each table. Fails with
+        TxCacheError, and then all stand as they did, if the lock of a table is not to be had."""
         with contextlib.closing(self.connect()) as link:
             _standby.refuse(link, "uninstall")
-            catalog, installer = self._catalog_of(link), Installer(link, INSTALL_TIMEOUT)
+            catalog = self._catalog_of(link)
             standing = catalog.triggers()
-            lines = catalog.missing + [f"{it}: {'uninstalled' if installer.uninstall_table(standing[it]) else 'no trigger stood'}" for it in catalog.found]
-            return lines if installer.uninstall_schema() else lines + ["the schema txcache stays: triggers of other tables stand"]
+            try:
+                is_whole = Installer(link, INSTALL_TIMEOUT).uninstall(standing.values())
+            except link.driver.Error as error:
+                raise TxCacheError(f"nothing was uninstalled, run it again: {str(error).strip().splitlines()[0]}") from error
+            lines = catalog.missing + [f"{it}: {'uninstalled' if own_of(standing[it]) else 'no trigger stood'}" for it in catalog.found]
+            return lines if is_whole else lines + ["the schema txcache stays: triggers of other tables stand"]
 
     def _catalog_of(self, link: Link) -> Catalog:
         return Catalog(link, self._names, self._lookups)
 
     @staticmethod
-    def _faults(link: Link, catalog: Catalog) -> List[str]:
+    def _faults(link: Link, catalog: Catalog, reader: Optional[str] = None) -> List[str]:
         of_tables = [line for it in catalog.faults_of_tables().values() for line in it]
-        return faults_of_schema(link) + catalog.missing + (of_tables or catalog.faults_of_triggers())
+        of_schema, of_triggers = faults_of_schema(link, reader), of_tables or catalog.faults_of_triggers()
+        return of_schema + catalog.missing + of_triggers + catalog.faults_of_reading(reader)
 
     # ---- tokens
 
@@ -235,7 +242,7 @@ class PostgresStore:
         return Look(PostgresSnapshot(self, link, self._tables), mark, None, reason, delay or 0.0)
 
     def _next(self, link: Link, last: Mark) -> Union[Look, str]:
-        """Takes the snapshot after the last; or returns why all must begin anew."""
+        """Takes the snapshot after the last; or returns why the cache must begin cold."""
         tables = self._tables
         if tables is None:
             return "the store was closed"
@@ -286,7 +293,7 @@ class PostgresStore:
                 return
         link.close()
 
-    def wants_air(self) -> bool:
+    def wants_air(self, is_read: bool) -> bool:
         return False
 
     def air(self) -> None:
@@ -368,7 +375,7 @@ class PostgresSnapshot:
             return self._name
 
     def check(self) -> None:
-        """Fails with SnapshotLost if the transaction has ended. What another connection read before in its snapshot counts if it has not."""
+        """Fails with SnapshotLost if the transaction has ended. Rows that another connection read before in its snapshot count if it has not."""
         with self._lock:
             self._ask("SELECT 1")
 

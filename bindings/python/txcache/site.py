@@ -29,22 +29,38 @@ from typing import NamedTuple, Optional
 
 from . import _calls
 from ._calls import ALREADY_OPEN, ANSWERED, BAD_ARGUMENT, CLOSED, COMPUTE, CONFLICT, DONE, MID_CALL, MISS, NO_MEMORY, NO_ROOM, NOT_OPEN, REFUSED
-from .node import FIRST_ROOM, Key, Refused, Totals, _Handle, _number, _Totals
+from .node import FIRST_ROOM, MAX_ASKS, MAX_VALUE_LEN, Key, Refused, Totals, _Handle, _number, _Totals
 
 MAX_EVENTS = 1_048_576  # that a site stores
 MAX_BODY_LEN = 65_536
+MAX_CHANGES = 256  # of a transaction
+MAX_MATCHING = 65_536  # versions of rows that a query finds
 MAX_OPEN = 65_536
 
 _U32, _U64 = 2**32 - 1, 2**64 - 1
 _SAID = {
     CLOSED: "the site is closed",
-    BAD_ARGUMENT: "a number is above its limit, a size is wrong, or a body is too long",
+    BAD_ARGUMENT: f"a number of the call is above its limit, or a body is longer than {MAX_BODY_LEN:,} bytes",
     ALREADY_OPEN: "the site is open already",
     NOT_OPEN: "the transaction is not open, or no function is computed",
     MID_CALL: "a call is open",
-    REFUSED: "the call, or what was asked, was refused; or none can begin now, or there is no such state",
-    CONFLICT: "what was read has changed",
+    CONFLICT: "the commit conflicts with a later one, which changed rows that were read",
 }
+_ASKED = f"the call has made {MAX_ASKS:,} queries and calls"
+_CHANGES_FULL = f"the transaction has {MAX_CHANGES} changes, and keeps no more"
+_FAILED = {  # what REFUSED means, by the call of the library
+    "txc_call": f"the call failed: {_ASKED}, a function called one whose number is not lower, or memory was short",
+    "txc_finish": f"the call failed: {_ASKED}, or memory was short",
+    "txc_put": _CHANGES_FULL, "txc_remove": _CHANGES_FULL, "txc_begin": f"no transaction can begin: {MAX_OPEN:,} are open",
+    "txc_begin_write": f"no transaction can begin: {MAX_OPEN:,} are open, or as many stamps are held",
+    "txc_query_rows": f"the query failed: more than {MAX_MATCHING:,} versions match, or the stamp at which the transaction began can be read no more",
+    "txc_commit_write": "the commit failed since its store had no memory, and may be made again",
+    "txc_pin": f"the present can't be pinned: 1,024 pins or {MAX_OPEN:,} stamps are held",
+    "txc_keep": "the site can't be tidied: its database is broken, or its store of rows failed",
+}
+_EVENTS_FULL = "the {0:,} events that the site has room for are used up, or "  # before the cause, where a site stores its events
+_APPENDING = "txc_commit_write", "txc_pin"
+_STORES = {"sql": _calls.STORE_SQL, "plain": _calls.STORE_PLAIN}
 _TXC = _calls.declared()
 _forks = 0  # how many times this process has come out of a fork
 
@@ -65,12 +81,15 @@ class GivenUp(Refused):
     """A function asks, or gives a value, whose call was given up since something in it failed; or one that has ended asks."""
 
 
-def _refuse(number):
+def _refuse(number, ask, cause=None):
+    """Raises the exception for the number that a call of the library returned. `cause` is what REFUSED means then, if that is known."""
     if number == NO_MEMORY:
         raise MemoryError
     if number == CONFLICT:
         raise Conflict(_SAID[number])
-    raise Refused(_SAID.get(number, f"refused: {number}"))
+    if number == REFUSED and (cause or ask.__name__ in _FAILED):
+        raise Refused(cause or _FAILED[ask.__name__])
+    raise Refused(_SAID.get(number, f"{ask.__name__} returned {number}"))
 
 
 class Row(NamedTuple):
@@ -104,7 +123,7 @@ class Query(NamedTuple):
 
 
 class Kept(NamedTuple):
-    """How many pins were retired, the horizon that is left, below which nothing is read, and how many results were dropped."""
+    """The number of pins that were retired, the horizon that is left, below which nothing is read, and the number of results that were dropped."""
 
     retired: int
     horizon: int
@@ -112,7 +131,7 @@ class Kept(NamedTuple):
 
 
 class Receipt(NamedTuple):
-    """How many answers it explains; and the stamp and moment of the state in which each is right, if there is one."""
+    """The number of answers that it explains; and the stamp and moment of the state in which each is right, if one exists."""
 
     answers: int
     stamp: Optional[int]
@@ -187,7 +206,7 @@ class _Transaction:
             number = _TXC.query_rows(site._handle, self._number, _calls.Query(*words), count)
             rows = self._rows(count.value) if number == ANSWERED else []
         if number != ANSWERED:
-            self._refuse(number)
+            self._refuse(number, _TXC.query_rows)
         return rows
 
     def _rows(self, count):
@@ -200,7 +219,7 @@ class _Transaction:
                 body = c.create_string_buffer(size.value)
                 number = _TXC.row_at(site._handle, self._number, at, row, body, len(body), size)
             if number != DONE:
-                self._refuse(number)
+                self._refuse(number, _TXC.row_at)
             rows.append(Row(row.table, row.id, row.group, body[: size.value]))
         site._buffers.append(pair)
         return rows
@@ -211,7 +230,7 @@ class _Transaction:
         if number == COMPUTE:
             return self._computed(function, args)
         if number not in (DONE, ANSWERED):
-            self._refuse(number)
+            self._refuse(number, _TXC.call)
         return value
 
     def _computed(self, function, args):
@@ -221,7 +240,7 @@ class _Transaction:
             given = bytes(function(asking, *args))
             number, value = self._told(_TXC.finish, given, len(given))
             if number not in (DONE, ANSWERED):
-                _refuse(number)
+                _refuse(number, _TXC.finish, f"the function gives {len(given):,} bytes, of at most {MAX_VALUE_LEN:,}" if len(given) > MAX_VALUE_LEN else None)
             return value
         except BaseException:
             self._give_up()
@@ -260,11 +279,11 @@ class _Transaction:
             if self._is_given_up:
                 raise GivenUp("the function's call was given up")
 
-    def _refuse(self, number):
+    def _refuse(self, number, ask):
         """Refuses what was asked. Within a function, that has ended the open call, unless an argument was bad."""
         if self._depth and number != BAD_ARGUMENT:
             self._give_up()
-        _refuse(number)
+        _refuse(number, ask, f"{_FAILED['txc_query_rows']}; or {_ASKED}, or memory was short" if self._depth and ask is _TXC.query_rows else None)
 
     def _give_up(self):
         """Gives the open call up, with the calls around it: none of their functions asks any more."""
@@ -285,7 +304,7 @@ class _Transaction:
         try:
             number = self._ask(ask, out)
             if number != DONE:
-                _refuse(number)
+                _refuse(number, ask, self._site._cause(ask))
             self._number = 0
         except BaseException:
             self._abort()
@@ -296,12 +315,12 @@ class _Transaction:
         stamp = c.c_uint32()
         number = self._ask(_TXC.read_stamp, stamp)
         if number not in (DONE, MISS):
-            _refuse(number)
+            _refuse(number, _TXC.read_stamp)
         return stamp.value if number == DONE else None
 
 
 class _Page(_Transaction):
-    """A transaction that only reads. Its receipt is there once the block has ended."""
+    """A transaction that only reads. It has a receipt once the block has ended."""
 
     receipt = None
 
@@ -324,7 +343,7 @@ class _Page(_Transaction):
                 number = _TXC.member_at(self._site._handle, self._number, len(members), stamp, moment)
                 members += [Member(stamp.value, moment.value)] * (number == DONE)
         if number != MISS:
-            _refuse(number)
+            _refuse(number, _TXC.member_at)
         return members
 
 
@@ -343,7 +362,7 @@ class _Write(_Transaction):
     def _do(self, ask, *words):
         number = self._ask(ask, *words)
         if number != DONE:
-            _refuse(number)
+            _refuse(number, ask)
 
     def __exit__(self, kind, error, trace):
         if kind:
@@ -360,14 +379,19 @@ class Site:
     can read any more. A forked child can use no site of its parent.
 
     With `max_bytes` the values of the node's results have at most so many bytes in all, after each call. Before it keeps a value it drops the results that
-    were used longest ago, until there is room. A value of more bytes is answered and not kept."""
+    were used longest ago, until there is room. A value of more bytes is answered and not kept.
 
-    def __init__(self, events=None, capacity=0, recent=0, renew_after=20_000, max_bytes=None):
+    `store` is where the current rows are: "sql" is a table of SQLite in memory, and "plain" are ordered maps, in which a change takes a small part of
+    the time. Both return the same."""
+
+    def __init__(self, events=None, capacity=0, recent=0, renew_after=20_000, max_bytes=None, store="sql"):
         self._handle, self._lock, self._born = _Handle(None, False), threading.RLock(), _forks
-        self._forgotten, self._buffers = collections.deque(), []
+        self._forgotten, self._buffers, self._events = collections.deque(), [], events
         if events == 0 or max_bytes == 0:
-            _refuse(BAD_ARGUMENT)
-        words = (_number(it, _U64) for it in (events or 0, capacity, recent, renew_after, max_bytes or 0))
+            raise Refused("events and max_bytes are at least 1, or None")
+        if store not in _STORES:
+            raise ValueError(f"store is {store!r}, and is one of {', '.join(map(repr, _STORES))}")
+        words = (_number(it, _U64) for it in (events or 0, capacity, recent, renew_after, max_bytes or 0, _STORES[store]))
         self._do(_TXC.site_open, _calls.Settings(c.sizeof(_calls.Settings), *words))
 
     def __enter__(self):
@@ -378,7 +402,7 @@ class Site:
             self.close()
 
     def __del__(self):
-        # nobody else has it, so that the lock is free
+        # no other thread has it, so that the lock is free
         if hasattr(self, "_buffers") and self._is_ours():
             _TXC.site_close(self._handle)
 
@@ -441,18 +465,26 @@ class Site:
         with self._turn():
             number = _TXC.oldest_open(self._handle, txn)
         if number not in (DONE, MISS):
-            _refuse(number)
+            _refuse(number, _TXC.oldest_open)
         return txn.value if number == DONE else None
 
     def abort(self, number):
-        """Aborts an open transaction, as one that was forgotten: whoever has it is refused from then on."""
+        """Aborts an open transaction, as one that was forgotten: its owner's calls fail from then on."""
         self._do(_TXC.abort, _number(number, _U64))
 
     def _do(self, ask, *words):
         with self._turn():
             number = ask(self._handle, *words)
         if number != DONE:
-            _refuse(number)
+            _refuse(number, ask, self._cause(ask, *words) if number == REFUSED else None)
+
+    def _cause(self, ask, *words):
+        """Returns why a call of the library was refused, if this site knows more than the call's name says."""
+        if ask is _TXC.begin_write_at and self.open_transactions() < MAX_OPEN:
+            return f"the stamp {words[0]} can't be read: it is below the oldest that can, or beyond the newest"
+        if ask.__name__ in _APPENDING and self._events is not None:
+            return _EVENTS_FULL.format(self._events) + _FAILED[ask.__name__]
+        return _FAILED["txc_begin"] if ask is _TXC.begin_write_at else None
 
     def _is_ours(self):
         return self._born == _forks

@@ -6,7 +6,7 @@
     def bids(db, item):
         return session(db).query(Bid).filter_by(item_id=item).all()
 
-What they read is found and remembered as what `db.cursor()` reads, or named by `db.reads(..)`. Rows that a function returns are detached: what it is to show
+Their reads are found and remembered as what `db.cursor()` reads, or named by `db.reads(..)`. Rows that a function returns are detached: what it is to show
 of their relationships it loads itself, by `joinedload` or its like.
 """
 
@@ -82,7 +82,7 @@ class SnapshotSession(Session):
             self._facade.is_ending = False
 
     def end(self) -> None:
-        """Of a function that has returned: what it gives is detached, so that to keep it asks nothing."""
+        """Detaches the rows that a function returns, once it has returned, so that to keep them asks nothing."""
         self.close()
         self._facade.is_ending = True
         self._connection.close()

@@ -1,6 +1,6 @@
 """A SQLite file in WAL mode, beside which a service caches.
 
-Triggers of the file's own write a note of each changed row, whoever writes. There is one writer at a time, so the numbers of notes are in the
+Triggers of the file's own write a note of each changed row, from any connection. There is one writer at a time, so the numbers of notes are in the
 order of the commits. A snapshot is a connection with a read transaction open.
 """
 
@@ -21,7 +21,8 @@ from ._store import MAX_TAGS, PURGE_AGE, Look
 from .errors import NotInstalled, SnapshotLost
 
 VERSION = 1
-MAX_LOG = 8 << 20  # bytes of the write-ahead log, from which on no snapshot stays open: while one is, the log can't begin anew
+MAX_LOG = 8 << 20  # bytes that the write-ahead log grows by before no snapshot stays open: while one is, the log can't begin anew
+AIR_AGAIN = 10.0  # seconds after which a log that could not begin anew is tried again, if no page is open
 _NOTES = 1000  # that are read at once
 BUSY_TIMEOUT = 5.0  # seconds for which `install` and `purge` wait for a writer
 BOOLEANS = "0", "1"
@@ -76,7 +77,7 @@ class SqliteStore:
         """A snapshot is one connection, whose threads take turns: there is nothing to bound."""
 
     def forget(self) -> Any:
-        """Of a child after a fork: returns all that its parent has open, which it may neither use nor close, and has none of its own."""
+        """Begins with nothing open, in a child after a fork. Returns all that its parent has open, which it may neither use nor close."""
         inherited = vars(self).get("_probe"), vars(self).get("_spare")
         self._lock = threading.RLock()
         self._probe: Optional[sqlite3.Connection] = None
@@ -85,14 +86,14 @@ class SqliteStore:
         self._file: Optional[Tuple[int, int]] = None
         self._layout: Optional[Layout] = None
         self._read_by: Dict[str, FrozenSet[str]] = {}
+        self._aired, self._left = 0.0, 0  # when the log was copied last, and how long it was after that
         return inherited
 
     # ---- the triggers
 
     def install(self, reader: Optional[str] = None) -> List[str]:
         """Writes the triggers into the file, and has it keep a write-ahead log. It may be run again. Returns a line for each table."""
-        if reader is not None:
-            raise ValueError("a SQLite file has no roles")
+        _refuse_roles(reader)
         with contextlib.closing(self._connect(is_writing=True)) as link:
             link.execute("PRAGMA journal_mode = WAL")
             with _writing(link):
@@ -117,14 +118,15 @@ class SqliteStore:
             link.execute(text)
         return f"{given}: installed"
 
-    def check(self) -> List[str]:
+    def check(self, reader: Optional[str] = None) -> List[str]:
         """Returns a line for each fault: none if the triggers stand."""
+        _refuse_roles(reader)
         with contextlib.closing(self._connect()) as link:
             link.execute("BEGIN")
             return self._faults(link)
 
     def purge(self, age: float = PURGE_AGE) -> int:
-        """Deletes the notes that were there when a purge of `age` seconds ago or more looked. Returns how many."""
+        """Deletes the notes that existed when a purge of `age` seconds ago or more looked. Returns how many."""
         with contextlib.closing(self._connect(is_writing=True)) as link, _writing(link):
             below, = link.execute("SELECT max(below) FROM txcache_purges WHERE made <= ?", (time.time() - age,)).fetchone()
             upto, = link.execute("SELECT upto FROM txcache_state").fetchone()
@@ -191,7 +193,7 @@ class SqliteStore:
     # ---- snapshots
 
     def look(self, last: Optional[Mark] = None, is_wanted: bool = True) -> Look:
-        """Takes a snapshot, and says what changed since the mark of the last; none where the file has not changed and none is wanted."""
+        """Takes a snapshot, and says what changed since the mark of the last; none if the file has not changed and none is asked for."""
         with self._lock:
             try:
                 return self._looked(last, is_wanted)
@@ -265,18 +267,26 @@ class SqliteStore:
                 pass
             link.close()
 
-    def wants_air(self) -> bool:
-        """Returns True if the log has grown over `max_log` bytes."""
-        try:
-            return os.stat(self.path + "-wal").st_size > self.max_log
-        except OSError:
-            return False
+    def wants_air(self, is_read: bool) -> bool:
+        """Returns True if the log has grown by more than `max_log` bytes since it was copied; if no page is open, by half of that, or if it is so long still
+        and was copied some time ago."""
+        size, limit = self._log_size(), self.max_log if is_read else self.max_log // 2
+        self._left = min(self._left, size)
+        return size - self._left > limit or not is_read and size > limit and time.monotonic() > self._aired + AIR_AGAIN
 
     def air(self) -> None:
-        """Copies the log into the file, so that it begins anew. Where a reader or writer is in the way it does what it can."""
+        """Copies the log into the file, so that it begins again at its head. If a reader or writer of another process is in the way it does what it can, and the log
+        grows."""
         with contextlib.suppress(sqlite3.Error), contextlib.closing(self._connect(is_writing=True)) as link:
             link.execute("PRAGMA busy_timeout = 200")
             link.execute("PRAGMA wal_checkpoint(TRUNCATE)").fetchall()
+        self._aired, self._left = time.monotonic(), self._log_size()
+
+    def _log_size(self) -> int:
+        try:
+            return os.stat(self.path + "-wal").st_size
+        except OSError:
+            return 0
 
     def close(self) -> None:
         """Closes the connections that no open snapshot has."""
@@ -296,6 +306,11 @@ class SqliteStore:
         if not is_writing:
             link.execute("PRAGMA query_only = 1")
         return link
+
+
+def _refuse_roles(reader: Optional[str]) -> None:
+    if reader is not None:
+        raise ValueError("a SQLite file has no roles")
 
 
 def _why_cold(last: Optional[Mark], mark: Mark) -> str:

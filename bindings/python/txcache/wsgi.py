@@ -13,7 +13,7 @@ Application = Callable[[Environ, Callable[..., Any]], Iterable[bytes]]
 class Pages:
     """An application in whose GET and HEAD requests a page of `cache` is open, at most `max_age` seconds old. It ends as the application returns its
     response: what a body streams after that opens a page of its own. A request that lost its snapshot before its response began is made
-    once more, also if the framework has made a response of the error."""
+    again, also if the framework has made a response of the error."""
 
     def __init__(self, app: Application, cache: TxCache, max_age: float = 5.0):
         self.app, self.cache, self.max_age = app, cache, max_age
@@ -50,7 +50,7 @@ class Pages:
 
 
 class _Response:
-    """How a response begins, which is kept back until its page has ended."""
+    """The beginning of a response, which is kept back until its page has ended."""
 
     def __init__(self, start_response: Callable[..., Any]):
         self._start_response = start_response

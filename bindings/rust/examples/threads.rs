@@ -1,4 +1,4 @@
-//! Eight threads with pages whose functions sleep, beside one that writes: no page is torn, and nobody waits for another's function.
+//! Eight threads with pages whose functions sleep, beside one that writes: no page is torn, and none waits for another's function.
 use std::sync::atomic::{AtomicBool, AtomicU32, Ordering::SeqCst};
 use std::thread;
 use std::time::{Duration, Instant};
@@ -14,7 +14,7 @@ static COMPUTED: AtomicU32 = AtomicU32::new(0);
 static ASLEEP: AtomicU32 = AtomicU32::new(0);
 static MOST_ASLEEP: AtomicU32 = AtomicU32::new(0);
 
-/// What a function does beside its queries, for some milliseconds.
+/// The work of a function beside its queries, for some milliseconds.
 fn work() {
     MOST_ASLEEP.fetch_max(ASLEEP.fetch_add(1, SeqCst) + 1, SeqCst);
     thread::sleep(SLEEP);

@@ -93,6 +93,7 @@ pub struct SiteSettings {
     pub recent: usize,
     pub renew_after: u64,
     pub bytes: usize,
+    pub store: usize,
 }
 
 #[repr(C)]
@@ -103,7 +104,10 @@ pub struct Kept {
     pub swept: usize,
 }
 
-pub const ABI: u32 = 3;
+pub const ABI: u32 = 4;
+
+pub const STORE_SQL: usize = 0;
+pub const STORE_PLAIN: usize = 1;
 
 pub const DONE: u32 = 0;
 pub const MISS: u32 = 1;

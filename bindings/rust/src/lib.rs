@@ -53,7 +53,7 @@ pub enum Error {
     OutOfOrder(u32),
     /// A value has more than [`MAX_VALUE_LEN`] bytes.
     ValueTooLong,
-    /// Memory was refused.
+    /// An allocation failed.
     NoMemory,
 }
 
@@ -199,17 +199,17 @@ impl Reach {
     }
 }
 
-/// What a lookup found.
+/// The result of a lookup.
 #[derive(Clone, Debug, PartialEq, Eq)]
 pub struct Hit {
     pub reach: Reach,
     pub value: Vec<u8>,
 }
 
-/// What an insertion did.
+/// The effect of an insertion.
 #[derive(Clone, Copy, Debug, PartialEq, Eq)]
 pub enum Inserted {
-    /// The result is there, with the reach after the events that it had missed; and the entry that was dropped for it, by
+    /// The result is stored, with the reach after the events that it had missed; and the entry that was dropped for it, by
     /// its key and first stamp, if one was.
     Stored {
         reach: Reach,

@@ -1,7 +1,7 @@
 //! Transactions whose functions you compute, over a database, its pins and a node.
 //!
 //! Threads share a [`Site`], and each begins transactions of its own. A transaction's functions are computed outside of the site's
-//! lock, which is held for single calls of the library alone: so nobody waits for another's function.
+//! lock, which is held for single calls of the library alone: so no thread waits for another's function.
 //!
 //! ```
 //! use txcache_node::site::{Asking, Error, Query, Site};
@@ -51,9 +51,9 @@ pub enum Error {
     GivenUp,
     /// The transaction is open no more: it was aborted by its number.
     NotOpen,
-    /// What was read has changed, and nothing is committed.
+    /// Some row that was read has changed, and nothing is committed.
     Conflict,
-    /// Memory was refused.
+    /// An allocation failed.
     NoMemory,
 }
 
@@ -115,7 +115,7 @@ pub struct Row {
     pub body: Vec<u8>,
 }
 
-/// What is asked of a state. Its answer is the rows that match, by id.
+/// A query of a state. Its answer is the rows that match, by id.
 #[derive(Clone, Copy)]
 pub struct Query(ffi::Query);
 
@@ -157,7 +157,7 @@ pub struct Receipt {
     pub pin: Option<(u32, u64)>,
 }
 
-/// What a keep did: how many pins it retired, the horizon that it left, below which nothing is read any more, and how many
+/// The effect of a keep: how many pins it retired, the horizon that it left, below which nothing is read any more, and how many
 /// results the node dropped.
 #[derive(Clone, Copy, Debug, PartialEq, Eq)]
 pub struct Kept {
@@ -166,9 +166,9 @@ pub struct Kept {
     pub swept: usize,
 }
 
-/// What a function asks: rows, and values of other calls.
+/// The queries and calls of a function: rows, and values of other calls.
 ///
-/// What it asks next, or gives, is to be determined by its number, its arguments and what it was answered so far. If something in a
+/// Its next query or call, or its result, must be determined by its number, its arguments and what it was answered so far. If something in a
 /// call fails, the whole call is given up, and each of its functions that asks on, or gives a value, has [`Error::GivenUp`].
 pub trait Asking {
     /// Returns the rows of a query.
@@ -201,17 +201,60 @@ pub struct Site {
     handle: Arc<Mutex<Handle>>,
 }
 
+/// Where the newest version of each row lies. Every call has the same answer over both.
+#[derive(Clone, Copy, Debug, Default, PartialEq, Eq, Hash)]
+pub enum Store {
+    /// A table of SQLite in memory, for rows that are queried.
+    #[default]
+    Sql,
+    /// Ordered maps, for small rows that are written a hundred times as often as they are read, such as versions.
+    Plain,
+}
+
+impl Store {
+    fn number(self) -> usize {
+        match self {
+            Store::Sql => ffi::STORE_SQL,
+            Store::Plain => ffi::STORE_PLAIN,
+        }
+    }
+}
+
+/// How a site is made, for [`Site::open`]. By default no event is stored, there is no budget, and the rows lie in SQLite.
+///
+/// ```
+/// use txcache_node::site::{Settings, Site, Store};
+///
+/// let site = Site::open(Settings { store: Store::Plain, renew_after: 20_000, ..Settings::default() })?;
+/// # Ok::<(), txcache_node::site::Error>(())
+/// ```
+#[derive(Clone, Copy, Debug, Default, PartialEq, Eq)]
+pub struct Settings {
+    /// How many events, which are commits and pins, the site has room for. If `None`, they are not stored, and [`Site::keep`] lets go
+    /// what no transaction can read any more.
+    pub events: Option<usize>,
+    /// How many entries the node has at most; 0 is 65,536.
+    pub capacity: usize,
+    /// How many events the node keeps the tags of; 0 is 4,096.
+    pub recent: usize,
+    /// A pin that is older than so many milliseconds is renewed.
+    pub renew_after: u64,
+    /// How many bytes the values of the node's results have at most in all, after each call. Before the node keeps a value it drops
+    /// the results that were used longest ago, until there is room. A value of more bytes is answered and not kept.
+    pub budget: Option<usize>,
+    /// Where the rows lie.
+    pub store: Store,
+}
+
 impl Site {
     /// Makes a database, and a node of so many entries that keeps the tags of the last `recent` events; 0 is 65,536 entries, and 4,096
     /// events. With no bound on its events, which are its commits and pins, they are not stored, and [`Site::keep`] lets go what no
     /// transaction can read any more; else it has room for so many. A pin that is older than `renew_after` milliseconds is renewed.
     pub fn new(events: Option<usize>, capacity: usize, recent: usize, renew_after: u64) -> Result<Site, Error> {
-        Site::made(events, capacity, recent, renew_after, 0)
+        Site::open(Settings { events, capacity, recent, renew_after, ..Settings::default() })
     }
 
-    /// The same with a budget: the values of the node's results have at most `bytes` bytes in all, after each call. Before it keeps a
-    /// value it drops the results that were used longest ago, until there is room. A value of more bytes is answered and not kept.
-    /// Fails if the budget is 0.
+    /// The same with a budget, as [`Settings::budget`] has it. Fails if the budget is 0.
     pub fn with_budget(
         events: Option<usize>,
         capacity: usize,
@@ -219,25 +262,23 @@ impl Site {
         renew_after: u64,
         bytes: usize,
     ) -> Result<Site, Error> {
-        if bytes == 0 {
-            return Err(Error::BadArgument);
-        }
-        Site::made(events, capacity, recent, renew_after, bytes)
+        Site::open(Settings { events, capacity, recent, renew_after, budget: Some(bytes), ..Settings::default() })
     }
 
-    // With 0 bytes there is no budget.
-    fn made(events: Option<usize>, capacity: usize, recent: usize, renew_after: u64, bytes: usize) -> Result<Site, Error> {
+    /// Makes a site of these settings. Fails if there is room for no event, if the budget is 0, or if a setting is above its limit.
+    pub fn open(settings: Settings) -> Result<Site, Error> {
         assert_eq!(unsafe { ffi::txc_abi() }, ffi::ABI, "libtxc_c.a is of another header");
-        if events == Some(0) {
+        if settings.events == Some(0) || settings.budget == Some(0) {
             return Err(Error::BadArgument);
         }
         let settings = ffi::SiteSettings {
             size: size_of::<ffi::SiteSettings>(),
-            events: events.unwrap_or(0), // as the library has it
-            capacity,
-            recent,
-            renew_after,
-            bytes,
+            events: settings.events.unwrap_or(0), // as the library has it
+            capacity: settings.capacity,
+            recent: settings.recent,
+            renew_after: settings.renew_after,
+            bytes: settings.budget.unwrap_or(0),
+            store: settings.store.number(),
         };
         let mut handle = ffi::Handle {
             slot: std::ptr::null_mut(),
@@ -276,7 +317,7 @@ impl Site {
     }
 
     /// The same over the state of that stamp, such as a receipt's: it is committed only if no later event changed what it has read.
-    /// This state does not stay. Where nobody can read it any more, this is refused, or what is asked is, or the commit.
+    /// This state does not stay. If it is no longer readable, this fails, or a query does, or the commit.
     pub fn write_at(&self, stamp: u32) -> Result<Write, Error> {
         let mut txn = 0;
         done(unsafe { ffi::txc_begin_write_at(&mut self.lock().0, stamp, &mut txn) })?;
@@ -307,7 +348,7 @@ impl Site {
     }
 
     /// Keeps the longest prefix of the node's results, the most recently used first, whose values have at most `most` bytes in all,
-    /// whatever is open. Returns how many it dropped. A site that was made by [`Site::with_budget`] does so itself.
+    /// whatever is open. Returns how many it dropped. A site that has a budget does so itself.
     pub fn trim(&self, most: usize) -> Result<usize, Error> {
         let mut dropped = 0;
         done(unsafe { ffi::txc_site_trim(&mut self.lock().0, most, &mut dropped) })?;
@@ -335,7 +376,7 @@ impl Site {
         (number == ffi::DONE).then_some(txn)
     }
 
-    /// Aborts an open transaction, as one that was forgotten. Whoever has it is told [`Error::NotOpen`] from then on.
+    /// Aborts an open transaction, as one that was forgotten. A later use of it returns [`Error::NotOpen`] from then on.
     pub fn abort(&self, txn: u64) -> Result<(), Error> {
         done(unsafe { ffi::txc_abort(&mut self.lock().0, txn) })
     }
@@ -474,7 +515,7 @@ impl Drop for GiveUp<'_> {
 struct Function<'a>(&'a mut Open);
 
 impl Function<'_> {
-    // What it asked, unless its call was given up. If the library has ended the call, it is given up.
+    // The queries and calls that it made, unless its call was given up. If the library has ended the call, it is given up.
     fn asked<T>(&mut self, ask: impl FnOnce(&mut Open) -> Result<T, Error>) -> Result<T, Error> {
         if self.0.is_given_up {
             return Err(Error::GivenUp);

@@ -1,5 +1,5 @@
-//! Transactions of a site, and what they refuse; with events that are stored, and with none.
-use txcache_node::site::{Asking, Error, Kept, MAX_BODY_LEN, Query, Site};
+//! Transactions of a site, and what they refuse; with events that are stored, and with none, over either store of rows.
+use txcache_node::site::{Asking, Error, Kept, MAX_BODY_LEN, Query, Row, Settings, Site, Store, Write};
 use txcache_node::{Key, LAST_STAMP, MAX_EVENTS, MAX_VALUE_LEN};
 
 fn highest(asking: &mut dyn Asking) -> Result<Vec<u8>, Error> {
@@ -22,9 +22,13 @@ fn bid(site: &Site, id: u32, amount: &[u8]) -> u32 {
     write.commit().unwrap()
 }
 
-fn sites() -> [Site; 2] {
-    [None, Some(1000)].map(|events| {
-        let site = Site::new(events, 100, 64, 20_000).unwrap();
+fn over(store: Store, events: Option<usize>) -> Site {
+    Site::open(Settings { events, capacity: 100, recent: 64, renew_after: 20_000, store, ..Settings::default() }).unwrap()
+}
+
+fn sites() -> [Site; 4] {
+    [(Store::Sql, None), (Store::Sql, Some(1000)), (Store::Plain, None), (Store::Plain, Some(1000))].map(|(store, events)| {
+        let site = over(store, events);
         bid(&site, 1, b"110");
         site
     })
@@ -153,6 +157,50 @@ fn what_cannot_begin() {
         let below = site.write_at(1).and_then(|mut write| write.rows(Query::all(1)));
         assert_eq!(below.err(), Some(Error::Refused));
         assert_eq!(site.write_at(2).unwrap().rows(Query::all(1)).unwrap().len(), 1);
+    }
+}
+
+/// What each kind of query finds.
+fn found(write: &mut Write) -> Vec<Result<Vec<Row>, Error>> {
+    let queries = (1..3).flat_map(|table| {
+        let all = [Query::all(table), Query::range(table, 3, 8), Query::range(table, 9, u32::MAX)];
+        let each = (0..12).flat_map(move |number| [Query::id(table, number), Query::group(table, number % 4)]);
+        all.into_iter().chain(each)
+    });
+    queries.map(|query| write.rows(query)).collect()
+}
+
+/// What is found after each of these changes, in the newest state and in one before them that is held, and after each keep.
+fn told(site: &Site) -> Vec<Vec<Result<Vec<Row>, Error>>> {
+    let mut said = Vec::new();
+    let mut held = site.write().unwrap();
+    for number in 0..60_u32 {
+        let (table, id) = ((1 + number % 2) as u8, number * 7 % 12);
+        let mut write = site.write().unwrap();
+        match number % 5 {
+            0 => write.remove(table, id).unwrap(),
+            _ => write.put(table, id, number * 5 % 4, number.to_string().as_bytes()).unwrap(),
+        }
+        write.put(1, 11, number % 4, &number.to_le_bytes()).unwrap(); // it changes its group each time
+        assert_eq!(write.commit().unwrap(), number + 1);
+        said.push(found(&mut held));
+        said.push(found(&mut site.write().unwrap()));
+        if number % 20 == 19 {
+            assert!(site.keep(0, 0).is_ok());
+            said.push(found(&mut held));
+            held = site.write().unwrap();
+        }
+    }
+    said
+}
+
+#[test]
+fn both_stores_answer_alike() {
+    assert_eq!(Settings::default().store, Store::Sql);
+    for events in [None, Some(1000)] {
+        let said = told(&over(Store::Sql, events));
+        assert_eq!(told(&over(Store::Plain, events)), said);
+        assert!(said.iter().flatten().any(|it| it.as_ref().is_ok_and(|rows| rows.len() > 3)));
     }
 }
 

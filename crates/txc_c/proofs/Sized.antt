@@ -4,8 +4,8 @@ use Rattle.std.proofs.lemmas.Bool.{and_parts, cond_both, eqb-false}
 use Rattle.txc_node.specs.declared.node.TheConstants.{MAX_CAPACITY, MAX_RECENT, MOST_CAPACITY}
 use Rattle.txc_shared.specs.declared.settings.NodeSettings.{NodeSettings}
 use Rattle.txc_stream.specs.declared.row.TheConstants.{MAX_CAPACITY as MAX_EVENTS}
-use Rattle.txc_c.specs.Settings.{are_settings, capacity_of, stored_events_of, site_node_of, or_default, recent_of, room_for_events, room_of, said}
-use Rattle.txc_c.specs.declared.site_settings.TheConstants.{BYTES_END, CAPACITY_END, RECENT_END, SIZE_END}
+use Rattle.txc_c.specs.Settings.{are_settings, capacity_of, stored_events_of, site_node_of, or_default, recent_of, room_for_events, room_of, said, store_of}
+use Rattle.txc_c.specs.declared.site_settings.TheConstants.{CAPACITY_END, RECENT_END, SIZE_END, STORE_END, STORE_PLAIN}
 use Rattle.txc_c.specs.declared.site_settings.TxcSiteSettings.{TxcSiteSettings}
 
 room_fits : (events most : ℕ) → events ≤ most → IfSome (room_for_events events) (λ (e : ℕ). (1 ≤ e) × (e ≤ most))
@@ -20,10 +20,11 @@ default_fits default value low = cond_both (value == 0) default value (λ (n : �
 limits_of : (s : TxcSiteSettings) → are_settings s ≡ true → (stored_events_of s ≤ MAX_EVENTS) × (capacity_of s ≤ MOST_CAPACITY) × (recent_of s ≤ MAX_RECENT)
 limits_of s is =
     let all =
-    and_parts (nat_le SIZE_END s.size && nat_le s.size BYTES_END) (nat_le (stored_events_of s) MAX_EVENTS && (nat_le (capacity_of s) MOST_CAPACITY && nat_le (recent_of s) MAX_RECENT)) is in
-    let one = and_parts (nat_le (stored_events_of s) MAX_EVENTS) (nat_le (capacity_of s) MOST_CAPACITY && nat_le (recent_of s) MAX_RECENT) all.1 in
-    let two = and_parts (nat_le (capacity_of s) MOST_CAPACITY) (nat_le (recent_of s) MAX_RECENT) one.1 in
-    (leb-true (stored_events_of s) MAX_EVENTS one.0, leb-true (capacity_of s) MOST_CAPACITY two.0, leb-true (recent_of s) MAX_RECENT two.1)
+    and_parts (nat_le SIZE_END s.size && nat_le s.size STORE_END) (nat_le (stored_events_of s) MAX_EVENTS && (nat_le (capacity_of s) MOST_CAPACITY && (nat_le (recent_of s) MAX_RECENT && nat_le (store_of s) STORE_PLAIN))) is in
+    let one = and_parts (nat_le (stored_events_of s) MAX_EVENTS) (nat_le (capacity_of s) MOST_CAPACITY && (nat_le (recent_of s) MAX_RECENT && nat_le (store_of s) STORE_PLAIN)) all.1 in
+    let two = and_parts (nat_le (capacity_of s) MOST_CAPACITY) (nat_le (recent_of s) MAX_RECENT && nat_le (store_of s) STORE_PLAIN) one.1 in
+    let three = and_parts (nat_le (recent_of s) MAX_RECENT) (nat_le (store_of s) STORE_PLAIN) two.1 in
+    (leb-true (stored_events_of s) MAX_EVENTS one.0, leb-true (capacity_of s) MOST_CAPACITY two.0, leb-true (recent_of s) MAX_RECENT three.0)
 
 pub may_have_room : (s : TxcSiteSettings) → are_settings s ≡ true → (room : Option ℕ) → room ≡ room_of s → IfSome room (λ (e : ℕ). (1 ≤ e) × (e ≤ MAX_EVENTS))
 may_have_room s is room same = subst (λ (o : Option ℕ). IfSome o (λ (e : ℕ). (1 ≤ e) × (e ≤ MAX_EVENTS))) (sym same) (room_fits (stored_events_of s) MAX_EVENTS (limits_of s is).0)

@@ -2,8 +2,10 @@
 use Rattle.std.specs.Prelude.{◌==◌, ◌&&◌, ℕ, Bool, nat_le, if◌then◌else◌, Option, Some, None}
 use Rattle.txc_node.specs.declared.node.TheConstants.{MAX_CAPACITY, MAX_RECENT, MOST_CAPACITY}
 use Rattle.txc_stream.specs.declared.row.TheConstants.{MAX_CAPACITY as MAX_EVENTS}
+use Rattle.txc_db.specs.declared.row_store.RowStore.{RowStore}
+use Rattle.txc_db.specs.declared.row_store.RowStore.TheVariants.{Sql, Plain}
 use Rattle.txc_shared.specs.declared.settings.NodeSettings.{NodeSettings}
-use Rattle.txc_c.specs.declared.site_settings.TheConstants.{BYTES_END, EVENTS_END, CAPACITY_END, RECENT_END, RENEW_AFTER_END, SIZE_END}
+use Rattle.txc_c.specs.declared.site_settings.TheConstants.{BYTES_END, EVENTS_END, CAPACITY_END, RECENT_END, RENEW_AFTER_END, SIZE_END, STORE_END, STORE_PLAIN, STORE_SQL}
 use Rattle.txc_c.specs.declared.site_settings.TxcSiteSettings.{TxcSiteSettings}
 
 -- what a field says that ends there: 0 if it does not lie whole in the size
@@ -40,11 +42,23 @@ budget_in bytes = if bytes == 0 then None else Some bytes
 abbrev pub budget_of : TxcSiteSettings → Option ℕ
 budget_of s = budget_in (said s.size BYTES_END s.bytes)
 
+-- the number of the store of the rows
+abbrev pub store_of : TxcSiteSettings → ℕ
+store_of s = said s.size STORE_END s.store
+
+-- the store of that number
+abbrev pub row_store_named : ℕ → RowStore
+row_store_named store = if store == STORE_SQL then Sql else Plain
+
+abbrev pub row_store_of : TxcSiteSettings → RowStore
+row_store_of s = row_store_named (store_of s)
+
 -- the node of a site
 abbrev pub site_node_of : TxcSiteSettings → NodeSettings
 site_node_of s = record { number = 0; capacity = capacity_of s; recent = recent_of s }
 
 -- the size is that of a struct that the library knows, and each field is within its limit
 abbrev pub are_settings : TxcSiteSettings → Bool
-are_settings s = (nat_le SIZE_END s.size && nat_le s.size BYTES_END)
-    && (nat_le (stored_events_of s) MAX_EVENTS && (nat_le (capacity_of s) MOST_CAPACITY && nat_le (recent_of s) MAX_RECENT))
+are_settings s = (nat_le SIZE_END s.size && nat_le s.size STORE_END)
+    && (nat_le (stored_events_of s) MAX_EVENTS && (nat_le (capacity_of s) MOST_CAPACITY
+    && (nat_le (recent_of s) MAX_RECENT && nat_le (store_of s) STORE_PLAIN)))

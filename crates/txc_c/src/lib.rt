@@ -34,7 +34,7 @@ pub use node::{
 };
 pub use receipts::{TxcQuery, TxcReceipt, TxcRow};
 pub use site_handle::{TxcSite, site_crosses};
-pub use site_settings::TxcSiteSettings;
+pub use site_settings::{STORE_PLAIN, STORE_SQL, TxcSiteSettings};
 pub use totals::TxcTotals;
 pub use txc_crossing::{TxcCounts, TxcKey, TxcReach, TxcStored, TxcTag};
 pub use txn::{

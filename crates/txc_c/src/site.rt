@@ -42,6 +42,7 @@ impl Site {
     {
         let caller = Caller::new(
             alloc,
+            settings.row_store(),
             settings.room(),
             settings.node(),
             settings.budget(),

@@ -1,7 +1,8 @@
 //! How a site is made, as it crosses.
 ghost use Rattle.std.specs.Prelude.{◌≡◌};
-ghost use Rattle.txc_c.specs.Settings.{are_settings, budget_in, budget_of, capacity_of, stored_events_of, site_node_of, or_default, recent_of, renew_after_of, room_for_events, room_of, said};
+ghost use Rattle.txc_c.specs.Settings.{are_settings, budget_in, budget_of, capacity_of, stored_events_of, site_node_of, or_default, recent_of, renew_after_of, room_for_events, room_of, row_store_named, row_store_of, said, store_of};
 
+use txc_db::RowStore;
 use txc_node::{MAX_CAPACITY, MAX_RECENT, MOST_CAPACITY};
 use txc_shared::NodeSettings;
 use txc_stream::MAX_CAPACITY as MAX_EVENTS;
@@ -19,6 +20,14 @@ pub(crate) const RENEW_AFTER_END: usize = 40;
 
 pub(crate) const BYTES_END: usize = 48;
 
+pub(crate) const STORE_END: usize = 56;
+
+/// The number of the store that is a table of SQLite: the default.
+pub const STORE_SQL: usize = 0;
+
+/// The number of the store that is ordered maps: the greatest one.
+pub const STORE_PLAIN: usize = 1;
+
 /// How a site is made. What lies beyond its size is 0, and a field that is 0 has its default.
 #[repr(C)]
 #[derive(Clone, Copy)]
@@ -29,6 +38,7 @@ pub struct TxcSiteSettings {
     pub recent: usize,
     pub renew_after: u64,
     pub bytes: usize,
+    pub store: usize,
 }
 
 // The value, or its default.
@@ -50,6 +60,17 @@ fn budget_in(bytes: usize) -> Option<usize>
     ensures { result ≡ budget_in bytes }
 {
     if bytes == 0 { None } else { Some(bytes) }
+}
+
+// The store of that number.
+fn row_store_named(store: usize) -> RowStore
+    ensures { result ≡ row_store_named store }
+{
+    if store == STORE_SQL {
+        RowStore::Sql
+    } else {
+        RowStore::Plain
+    }
 }
 
 impl TxcSiteSettings {
@@ -78,6 +99,12 @@ impl TxcSiteSettings {
         or_default(MAX_RECENT, self.said(RECENT_END, self.recent))
     }
 
+    fn store(&self) -> usize
+        ensures { result ≡ store_of self.now }
+    {
+        self.said(STORE_END, self.store)
+    }
+
     /// Returns for how many events there is to be room, if they are stored.
     pub(crate) fn room(&self) -> Option<usize>
         ensures { result ≡ room_of self.now }
@@ -103,6 +130,13 @@ impl TxcSiteSettings {
         budget_in(self.said(BYTES_END, self.bytes))
     }
 
+    /// Returns the store of the rows.
+    pub(crate) fn row_store(&self) -> RowStore
+        ensures { result ≡ row_store_of self.now }
+    {
+        row_store_named(self.store())
+    }
+
     /// Returns after how many milliseconds a pin is renewed.
     pub(crate) fn renew_after(&self) -> u64
         ensures { result ≡ renew_after_of self.now }
@@ -118,9 +152,10 @@ impl TxcSiteSettings {
     pub(crate) fn are_settings(&self) -> bool
         ensures { result ≡ are_settings self.now }
     {
-        let is_known = SIZE_END <= self.size && self.size <= BYTES_END;
+        let is_known = SIZE_END <= self.size && self.size <= STORE_END;
         is_known
             && (self.events() <= MAX_EVENTS
-                && (self.capacity() <= MOST_CAPACITY && self.recent() <= MAX_RECENT))
+                && (self.capacity() <= MOST_CAPACITY
+                    && (self.recent() <= MAX_RECENT && self.store() <= STORE_PLAIN)))
     }
 }

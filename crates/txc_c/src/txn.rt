@@ -24,7 +24,7 @@ use std::alloc::Global;
 use txc_crossing::{ALREADY_OPEN, BAD_ARGUMENT, CLOSED, DONE, NO_MEMORY, TxcKey};
 
 /// The number of the header that this library has: it rises with each change of an export or a struct.
-pub const ABI: u32 = 3;
+pub const ABI: u32 = 4;
 
 /// Returns the number of the header that this library has.
 #[unsafe(no_mangle)]

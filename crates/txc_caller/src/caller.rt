@@ -20,7 +20,7 @@ use std::alloc::{AllocError, Global};
 use std::marker::Model;
 use txc_app::App;
 use txc_cushion::{CushionCore, Pins};
-use txc_db::DbError;
+use txc_db::{DbError, RowStore};
 use txc_ports::Bounds;
 use txc_shared::NodeSettings;
 use txc_txn::TxnCore;
@@ -105,11 +105,13 @@ pub(crate) fn begun(
 }
 
 impl<A: App> Caller<A> {
-    /// Returns a caller with an empty database that has room for so many events, or that stores none, for as many as there are
-    /// stamps; an empty pincushion; and an empty node. With a budget the values of its node have at most so many bytes in all,
-    /// after each of its methods: an insertion makes room first, and a value that alone is over the budget is not kept.
+    /// Returns a caller with an empty database over that store of rows. It has room for so many events, or stores none, for as
+    /// many as there are stamps. The caller has an empty pincushion and an empty node. With a budget the values of its node have at
+    /// most so many bytes in all, after each of its methods: an insertion makes room first, and a value that alone is over the
+    /// budget is not kept.
     pub fn new(
         alloc: Global,
+        rows: RowStore,
         room: Option<usize>,
         node: NodeSettings,
         budget: Option<usize>,
@@ -126,7 +128,7 @@ impl<A: App> Caller<A> {
         ensures renew_after { IfOk result (λ caller. caller.renew_after ≡ renew_after) }
         ensures refused { IfErr result IsWant }
     {
-        let Ok(plain) = Box::new(alloc, PlainPorts::new(alloc, room, node, budget)?) else {
+        let Ok(plain) = Box::new(alloc, PlainPorts::new(alloc, rows, room, node, budget)?) else {
             return Err(DbError::Memory);
         };
         Ok(Caller {

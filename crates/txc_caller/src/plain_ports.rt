@@ -16,7 +16,7 @@ use std::marker::Model;
 use txc_app::App;
 use txc_app::laws::found_rows_give_true_entries;
 use txc_cushion::CushionCore;
-use txc_db::{Answered, DbCore, DbError, HistoryFront};
+use txc_db::{Answered, DbCore, DbError, HistoryFront, RowStore};
 use txc_ports::{PortReply, PortRequest};
 use txc_rows::{MOST_MATCHING, Query};
 use txc_shared::{NodeSettings, StoredNode};
@@ -50,16 +50,17 @@ impl<A: App> Model for PlainPorts<A> {
     }) };
 }
 
-// An empty database with room for so many events, or that stores none. As many versions may match as can be allowed.
-fn empty_database(alloc: Global, room: Option<usize>) -> Result<DbCore, DbError>
+// An empty database over that store of rows, with room for so many events, or that stores none. As many versions may match as can
+// be allowed.
+fn empty_database(alloc: Global, rows: RowStore, room: Option<usize>) -> Result<DbCore, DbError>
     requires { IfSome room (λ events. (1 ≤ events) × (events ≤ MAX_ROW)) }
     ensures room { IfOk result (λ d. HasEventRoom room d.events) }
     ensures new { IfOk result IsNewDatabase }
     ensures refused { IfErr result IsWant }
 {
     let mut database = match room {
-        Some(events) => DbCore::new(alloc, events)?,
-        None => DbCore::unstored(alloc, Pen::new())?,
+        Some(events) => DbCore::new_over(alloc, rows, events)?,
+        None => DbCore::unstored_over(alloc, rows, Pen::new())?,
     };
     database.allow(MOST_MATCHING);
     Ok(database)
@@ -173,10 +174,11 @@ impl<A: App> PlainPorts<A> {
         self.database.tags_after(self.node.processed()).is_none()
     }
 
-    /// An empty database with room for so many events, or that stores none where no number is given; an empty pincushion and
-    /// an empty node, whose values are to stay within the budget.
+    /// An empty database over that store of rows, with room for so many events, or that stores none where no number is given; an
+    /// empty pincushion and an empty node, whose values are to stay within the budget.
     pub(crate) fn new(
         alloc: Global,
+        rows: RowStore,
         room: Option<usize>,
         settings: NodeSettings,
         budget: Option<usize>,
@@ -191,7 +193,7 @@ impl<A: App> PlainPorts<A> {
         ensures budget { IfOk result (λ ports. ports.budget ≡ budget) }
         ensures refused { IfErr result IsWant }
     {
-        let database = empty_database(alloc, room)?;
+        let database = empty_database(alloc, rows, room)?;
         let Ok(seen) = database.reader() else {
             drop(database);
             return Err(DbError::Memory);

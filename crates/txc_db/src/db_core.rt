@@ -17,6 +17,7 @@ use crate::history::History;
 use crate::history_front::HistoryFront;
 use crate::holds::{MAX_HOLDS, least_held, place_of};
 use crate::pinned::Pinned;
+use crate::row_store::RowStore;
 use std::alloc::{AllocError, Global};
 use std::marker::Model;
 use std::sync::Arc;
@@ -91,7 +92,7 @@ impl Model for DbCore {
 impl DbCore {
     ghost use Rattle.txc_db.specs.DatabaseValue.{DatabaseValue, front_of, after_hold, after_pin, after_unpin, after_vacuum, newest, next_horizon, is_held, IsSound};
 
-    /// An empty database with a row for `capacity` events.
+    /// An empty database with a row for `capacity` events, over SQLite.
     pub fn new(alloc: Global, capacity: usize) -> Result<DbCore, DbError>
         requires least { 1 ≤ capacity }
         requires most { capacity ≤ MAX_CAPACITY }
@@ -101,11 +102,24 @@ impl DbCore {
         ensures holds { IfOk result (λ d. (d.holds ≡ []) × (d.broken ≡ false)) }
         ensures refused { IfErr result IsWant }
     {
-        let row = Arc::new(alloc, EventRow::new(alloc, capacity)?)?;
-        DbCore::of(alloc, History::stored(row)?)
+        DbCore::new_over(alloc, RowStore::Sql, capacity)
     }
 
-    /// An empty database whose history the pen writes. It has room for as many events as there are stamps.
+    /// An empty database with a row for `capacity` events, whose rows lie in that store.
+    pub fn new_over(alloc: Global, rows: RowStore, capacity: usize) -> Result<DbCore, DbError>
+        requires least { 1 ≤ capacity }
+        requires most { capacity ≤ MAX_CAPACITY }
+        ensures history { IfOk result (λ d. (d.history ≡ []) × HasCapacity d.events capacity) }
+        ensures kept { IfOk result (λ d. (d.versions ≡ []) × (d.horizon ≡ 0)) }
+        ensures limit { IfOk result (λ d. d.most ≡ MAX_MATCHING) }
+        ensures holds { IfOk result (λ d. (d.holds ≡ []) × (d.broken ≡ false)) }
+        ensures refused { IfErr result IsWant }
+    {
+        let row = Arc::new(alloc, EventRow::new(alloc, capacity)?)?;
+        DbCore::of(alloc, rows, History::stored(row)?)
+    }
+
+    /// An empty database whose history the pen writes, over SQLite. It has room for as many events as there are stamps.
     pub fn unstored(alloc: Global, pen: Pen<Event>) -> Result<DbCore, DbError>
         requires { pen.list ≡ [] }
         ensures history { IfOk result (λ d. (d.history ≡ []) × (d.events ≡ unstored pen.number)) }
@@ -114,11 +128,24 @@ impl DbCore {
         ensures holds { IfOk result (λ d. (d.holds ≡ []) × (d.broken ≡ false)) }
         ensures refused { IfErr result IsWant }
     {
-        DbCore::of(alloc, History::unstored(alloc, pen))
+        DbCore::unstored_over(alloc, RowStore::Sql, pen)
+    }
+
+    /// An empty database whose history the pen writes, and whose rows lie in that store. It has room for as many events as there
+    /// are stamps.
+    pub fn unstored_over(alloc: Global, rows: RowStore, pen: Pen<Event>) -> Result<DbCore, DbError>
+        requires { pen.list ≡ [] }
+        ensures history { IfOk result (λ d. (d.history ≡ []) × (d.events ≡ unstored pen.number)) }
+        ensures kept { IfOk result (λ d. (d.versions ≡ []) × (d.horizon ≡ 0)) }
+        ensures limit { IfOk result (λ d. d.most ≡ MAX_MATCHING) }
+        ensures holds { IfOk result (λ d. (d.holds ≡ []) × (d.broken ≡ false)) }
+        ensures refused { IfErr result IsWant }
+    {
+        DbCore::of(alloc, rows, History::unstored(alloc, pen))
     }
 
     // An empty database with this history.
-    fn of(alloc: Global, told: History) -> Result<DbCore, DbError>
+    fn of(alloc: Global, rows: RowStore, told: History) -> Result<DbCore, DbError>
         requires none { told.history ≡ [] }
         requires all { told.first ≡ 0 }
         ensures made { IfOk result (λ d. d ≡ record {
@@ -133,7 +160,7 @@ impl DbCore {
         ensures refused { IfErr result IsWant }
     {
         versions_keep_states();
-        let store = VersionRows::open_in_memory(alloc)?;
+        let store = rows.open(alloc)?;
         Ok(DbCore {
             store,
             most: MAX_MATCHING,

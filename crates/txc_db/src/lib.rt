@@ -19,6 +19,7 @@ mod naming;
 mod net;
 mod pinned;
 mod prepared;
+mod row_store;
 mod settled;
 
 pub use answered::{Answered, CommitError};
@@ -33,3 +34,4 @@ pub use holds::MAX_HOLDS;
 pub use laws::{one_hold_less, pins_change_nothing, states_stay, tags_are_sound, worked_history};
 pub use naming::Naming;
 pub use pinned::Pinned;
+pub use row_store::RowStore;

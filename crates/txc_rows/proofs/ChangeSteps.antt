@@ -224,7 +224,7 @@ pub record Puts (row : RowValue) (s place : ℕ) (old mid : Held MemStore) (repl
   pub is_first : is_none o ≡ (length (filter (has_key row.table row.id row.group) (latest_in mid)) == 0)
   pub others : (end : Held MemStore) → HasLatest (put_latest place row s (latest_in mid)) end → KeepsOthers row.table row.id (latest_in old) (latest_in end)
   pub step : s ≤ MOST_STAMP → IsRow row → (end : Held MemStore) → HasLatest (put_latest place row s (latest_in mid)) end
-      → HasWritten (put row s (versions_of replaced old)) (place + 1) (replaced ++ map (λ x. closed_placed x.version.row.table x.version.row.id s x) (option_to_list o)) end
+      → HasWritten (put row s (versions_of replaced (latest_in old))) (place + 1) (replaced ++ map (λ x. closed_placed x.version.row.table x.version.row.id s x) (option_to_list o)) end
 
 module _ (row : RowValue) (s place : ℕ) (old first mid : Held MemStore) (replaced : List Placed) (apart : AreWellPlaced (latest_in old) replaced) (below : AreBelow place (latest_in old ++ replaced))
     (read : HasLatest (latest_in old) first) (xs : List Placed) (touched : IsPermutation (filter (is_touched row.table row.id row.group) (latest_in old)) xs)

@@ -5,8 +5,6 @@ use Rattle.std.specs.List.Sorted.{IsPermutation}
 use Rattle.std.proofs.lemmas.List.{length-map}
 use Rattle.std.proofs.lemmas.List.Elements.{filter-append}
 use Rattle.sqlite_trees.proofs.ListLemmas.{IsPermutation-filter, filter_none, all_weaker, all-filter, all-map}
-use Rattle.sqlite.specs.Held.{Held}
-use Rattle.sqlite_trees.specs.declared.memory.MemStore.{MemStore}
 use Rattle.txc_rows.specs.declared.store_error.StoreError.{StoreError}
 use Rattle.txc_rows.specs.declared.version.Versioned.{Versioned}
 use Rattle.txc_rows.specs.declared.query.Query.{Query}
@@ -15,7 +13,7 @@ use Rattle.txc_rows.specs.declared.placed.Placed.{Placed}
 use Rattle.txc_rows.specs.Placed.{version_of, is_left, left_from}
 use Rattle.txc_rows.specs.Found.{Finds}
 use Rattle.txc_rows.specs.Keeping.{AnswersNewest}
-use Rattle.txc_rows.specs.Kept.{latest_in, versions_of, IsFinding}
+use Rattle.txc_rows.specs.Kept.{versions_of, IsFinding}
 use Rattle.txc_rows.proofs.Members.{few_left, filters_turned}
 use Rattle.txc_rows.proofs.FindLemmas.{asked, of_all, found_latest}
 use Rattle.txc_rows.proofs.KeepingLemmas.{no_later, keeps_purged, found_answers}
@@ -39,15 +37,15 @@ module _ (q : Query) (from : ℕ) where
   pub asked_few : (xs : List Placed) → length (asked q from xs) ≤ length xs
   asked_few xs = omega (arith, few_left (suits q) (left_from from (map version_of xs)), few_left (is_left from) (map version_of xs), length-map xs version_of)
 
-  module _ (replaced : List Placed) (h : Held MemStore) (old found : List Versioned) (none : old ≡ []) (finding : IsFinding q from (latest_in h) old found) where
-    all_of : IsPermutation (of_all q from replaced h) (found ++ asked q from replaced)
-    all_of = found_latest q from replaced h old found none finding
+  module _ (replaced : List Placed) (latest : List Placed) (old found : List Versioned) (none : old ≡ []) (finding : IsFinding q from latest old found) where
+    all_of : IsPermutation (of_all q from replaced latest) (found ++ asked q from replaced)
+    all_of = found_latest q from replaced latest old found none finding
 
-    pub last_current : AllByRecursion (λ x. x.version.died ≢ None) replaced → IsPermutation (filter (suits q) (current (left_from from (versions_of replaced h)))) (current found)
+    pub last_current : AllByRecursion (λ x. x.version.died ≢ None) replaced → IsPermutation (filter (suits q) (current (left_from from (versions_of replaced latest)))) (current found)
     last_current ended =
         let are : current (found ++ asked q from replaced) ≡ current found
         = filter-append is_current found (asked q from replaced) ∙ ap (λ xs. current found ++ xs) (none_current replaced ended) ∙ append-nil (current found) in
-        subst (IsPermutation (filter (suits q) (current (left_from from (versions_of replaced h))))) are (both_current q (left_from from (versions_of replaced h)) (found ++ asked q from replaced) all_of)
+        subst (IsPermutation (filter (suits q) (current (left_from from (versions_of replaced latest))))) are (both_current q (left_from from (versions_of replaced latest)) (found ++ asked q from replaced) all_of)
 
 -- ---- the newest state
 

@@ -15,12 +15,10 @@ use Rattle.txc_rows.specs.Keeping.{AnswersStates}
 use Rattle.txc_rows.specs.declared.store_error.StoreError.{StoreError}
 use Rattle.txc_rows.specs.declared.placed.Placed.{Placed}
 use Rattle.txc_rows.specs.Placed.{version_of, versions_by_place, is_left, is_row_left, left_from, AreAmong}
-use Rattle.sqlite.specs.Held.{Held}
 use Rattle.sqlite.specs.Order.{Row}
-use Rattle.sqlite_trees.specs.declared.memory.MemStore.{MemStore}
 use Rattle.txc_rows.specs.States.{query_table}
 use Rattle.txc_rows.specs.Stored.{version_shown, placed_from}
-use Rattle.txc_rows.specs.Kept.{latest_in, versions_of, ArePassing, IsListing, IsFinding}
+use Rattle.txc_rows.specs.Kept.{versions_of, ArePassing, IsListing, IsFinding}
 use Rattle.txc_rows.proofs.PlaceLemmas.{by_place_permutes}
 use Rattle.txc_rows.proofs.KeepingLemmas.{found_answers}
 use Rattle.txc_rows.proofs.Listed.{all_shown}
@@ -94,17 +92,17 @@ module _ (t i from : ℕ) (latest : List Placed) (rows : List Row) (reads : AreP
 
 -- ---- the last versions first, and then the replaced ones
 
-module _ (q : Query) (from : ℕ) (replaced : List Placed) (h : Held MemStore) where
+module _ (q : Query) (from : ℕ) (replaced : List Placed) (latest : List Placed) where
   abbrev pub of_all : List Versioned
-  of_all = filter (suits q) (left_from from (versions_of replaced h))
+  of_all = filter (suits q) (left_from from (versions_of replaced latest))
 
-  pub found_latest : (old new : List Versioned) → old ≡ [] → IsFinding q from (latest_in h) old new → IsPermutation of_all (new ++ asked q from replaced)
+  pub found_latest : (old new : List Versioned) → old ≡ [] → IsFinding q from latest old new → IsPermutation of_all (new ++ asked q from replaced)
   found_latest old new none finding =
-      found_more q from of_all [] new (latest_in h) replaced (all_asked q from (latest_in h ++ replaced)) (subst (λ vs. IsFinding q from (latest_in h) vs new) none finding)
+      found_more q from of_all [] new latest replaced (all_asked q from (latest ++ replaced)) (subst (λ vs. IsFinding q from latest vs new) none finding)
 
-  pub latest_many : (most : ℕ) (old : List Versioned) → old ≡ [] → most < length old + length (asked q from (latest_in h)) → most < length of_all
+  pub latest_many : (most : ℕ) (old : List Versioned) → old ≡ [] → most < length old + length (asked q from latest) → most < length of_all
   latest_many most old none many =
-      found_many q from of_all [] [] (latest_in h) replaced (all_asked q from (latest_in h ++ replaced)) most (subst (λ vs. most < length vs + length (asked q from (latest_in h))) none many)
+      found_many q from of_all [] [] latest replaced (all_asked q from (latest ++ replaced)) most (subst (λ vs. most < length vs + length (asked q from latest)) none many)
 
   module _ (found : List Versioned) (so_far : IsPermutation of_all (found ++ asked q from replaced)) where
     pub replaced_few : (most : ℕ) → length found + length (asked q from replaced) ≤ most → length of_all ≤ most
@@ -116,7 +114,7 @@ module _ (q : Query) (from : ℕ) (replaced : List Placed) (h : Held MemStore) w
     pub found_both : (all : List Versioned) → IsFinding q from replaced found all → IsPermutation of_all all
     found_both all finding = rw finding.are (IsPermutation-trans _ _ _ so_far (IsPermutation-append_right found _ _ finding.same))
 
-    pub found_all : (all sorted : List Versioned) → IsFinding q from replaced found all → IsPermutation all sorted → IsSorted version_cmp sorted → Finds q (left_from from (versions_of replaced h)) sorted
+    pub found_all : (all sorted : List Versioned) → IsFinding q from replaced found all → IsPermutation all sorted → IsSorted version_cmp sorted → Finds q (left_from from (versions_of replaced latest)) sorted
     found_all all sorted finding same sorts = record { same = IsPermutation-trans _ _ _ (found_both all finding) same; sorted = sorts }
 
 -- what is found answers the query in each kept state

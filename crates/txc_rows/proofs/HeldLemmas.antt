@@ -1,5 +1,5 @@
 -- What the statements do to a connection over the tables.
-use Rattle.std.proofs.Common.{◌≡◌, ◌⊎◌, inl, inr, ℕ, ℤ, List, [], ◌∷◌, map, filter, Bool, true, false, ◌&&◌, Some, Ok, Err, Result, OnOk, IfErr, IfOk, refl, sym, ap, subst, ◌∙◌, IsTrue}
+use Rattle.std.proofs.Common.{◌≡◌, ◌⊎◌, inl, inr, ℕ, ℤ, List, [], ◌∷◌, map, filter, Bool, true, false, ◌&&◌, Some, Ok, Err, Result, OnOk, OnErr, IfErr, IfOk, refl, sym, ap, subst, ◌∙◌, IsTrue}
 use Rattle.std.specs.List.{AllByRecursion, list_all}
 use Rattle.std.specs.List.Sorted.{IsPermutation}
 use Rattle.sqlite_trees.proofs.ListLemmas.{all_both, all-filter}
@@ -200,3 +200,8 @@ module _ (t i g : ℕ) (old new : Held MemStore) (table : HasTable old) (each : 
 
   pub last_touched : (r : Result (Vec Row Global) Error) → IfOk r (λ rows. Shown READ_LAST.now given (state over_memory old) (state over_memory new) rows.items) → IfOk r (λ rows. ArePassing t (is_touched t i g) (latest_in old) rows.items)
   last_touched = passing t (is_touched t i g) (λ x e. at_table t i x _ e) touched_filter READ_LAST.now touched_is given (touched_test t i g) old new table each
+
+-- a call that was refused left the same last versions
+pub refused_latest : {X : Type 0} (L : List Placed → Type 0) (old new : Held MemStore) (r : Result X Error) → IsCall L old new r → OnErr r (latest_in new ≡ latest_in old)
+refused_latest L old new (Ok x) call = tt
+refused_latest L old new (Err e) call = latest_by old new call.unchanged

@@ -252,7 +252,7 @@ inner_high : (h death number : ℕ) → death ≤ h → number < 184467440737095
 inner_high h death number high most = grind (arith, nat_tests)
 
 -- the keys between two, whatever comes after them
-keys_between : (t a b table key : ℕ) (q r : Ordering) → is_le q ≡ true → is_lt r ≡ false
+pub keys_between : (t a b table key : ℕ) (q r : Ordering) → is_le q ≡ true → is_lt r ≡ false
     → (is_le (ordering_then (nat_cmp t table) (ordering_then (nat_cmp a key) q)) && not (is_lt (ordering_then (nat_cmp t table) (ordering_then (nat_cmp b key) r)))) ≡ ((table == t) && (nat_le a key && nat_le key b))
 keys_between t a b table key Less Less low high = absurd (let f = high in cc)
 keys_between t a b table key Less Equal low high = grind (arith, nat_tests)
@@ -330,7 +330,7 @@ between_rise t k d ss sorted =
 
 -- ---- what a query looks up
 
-between_one : (t i table key : ℕ) → ((table == t) && (nat_le i key && nat_le key i)) ≡ ((table == t) && (key == i))
+pub between_one : (t i table key : ℕ) → ((table == t) && (nat_le i key && nat_le key i)) ≡ ((table == t) && (key == i))
 between_one t i table key = grind (arith, nat_tests)
 
 pub between_all : (t : ℕ) (ss : List Spot) → AllByRecursion FitsSpot ss → filter (is_between t 0 4294967295) ss ≡ filter (λ s. s.table == t) ss

@@ -45,3 +45,5 @@ pub mod NearLemmas
 pub mod StoreAsBox
 pub mod Offered
 pub mod OwnedLemmas
+pub mod Moving
+pub mod Slotting

@@ -6,8 +6,6 @@ use Rattle.std.proofs.lemmas.List.Sorted.{IsPermutation-refl, IsPermutation-tran
 use Rattle.std.specs.Prelude.{MatchOption}
 use borrow.Author.Tests.{eqb-true}
 use Rattle.sqlite_trees.proofs.ListLemmas.{all_weaker, all-append, all_both, all-permutation}
-use Rattle.sqlite.specs.Held.{Held}
-use Rattle.sqlite_trees.specs.declared.memory.MemStore.{MemStore}
 use Rattle.txc_rows.specs.declared.placed.Placed.{Placed}
 use Rattle.txc_rows.specs.declared.query.Query.{Query}
 use Rattle.txc_rows.specs.declared.query.Query.TheVariants.{ById}
@@ -17,7 +15,7 @@ use Rattle.txc_rows.specs.Versions.{suits, version_cmp}
 use Rattle.txc_rows.specs.Found.{IsNearer, IsNeedless, FindsAround}
 use Rattle.txc_rows.specs.Placed.{left_from}
 use Rattle.txc_rows.specs.Indexed.{stamp_or_zero, death_of, dead_between, DiedFirst, DiedLast}
-use Rattle.txc_rows.specs.Kept.{latest_in, versions_of, IsFinding, AddsAround}
+use Rattle.txc_rows.specs.Kept.{versions_of, IsFinding, AddsAround}
 use Rattle.txc_rows.proofs.Members.{is_in, contains_it, in_left, in_right, both_true}
 use Rattle.txc_rows.proofs.FindLemmas.{asked, asked_append, all_asked}
 use Rattle.txc_rows.proofs.DeadLemmas.{all_between, left_dead}
@@ -111,12 +109,12 @@ module _ {B : Type 0} (now : B → Versioned) (t : ℕ) (xs : List Placed) (each
 
 -- ---- the last versions, and then those that were replaced
 
-module _ (q : Query) (t from : ℕ) (replaced : List Placed) (h : Held MemStore) where
-  pub around_found : (old middle new sorted : List Versioned) → old ≡ [] → IsFinding q from (latest_in h) old middle → AddsAround t (asked q from replaced) middle new → IsPermutation new sorted → IsSorted version_cmp sorted
-      → FindsAround q t (left_from from (versions_of replaced h)) sorted
+module _ (q : Query) (t from : ℕ) (replaced : List Placed) (latest : List Placed) where
+  pub around_found : (old middle new sorted : List Versioned) → old ≡ [] → IsFinding q from latest old middle → AddsAround t (asked q from replaced) middle new → IsPermutation new sorted → IsSorted version_cmp sorted
+      → FindsAround q t (left_from from (versions_of replaced latest)) sorted
   around_found old middle new sorted none finding adds same sorts =
-      let all : IsPermutation (filter (suits q) (left_from from (versions_of replaced h))) (asked q from (latest_in h) ++ asked q from replaced) = subst (IsPermutation _) (asked_append q from (latest_in h) replaced) (all_asked q from (latest_in h ++ replaced)) in
-      let both = adds_both t _ (asked q from (latest_in h)) (asked q from replaced) old middle new all (adds_all t (asked q from (latest_in h)) old middle finding.more finding.same finding.are) adds in
+      let all : IsPermutation (filter (suits q) (left_from from (versions_of replaced latest))) (asked q from latest ++ asked q from replaced) = subst (IsPermutation _) (asked_append q from latest replaced) (all_asked q from (latest ++ replaced)) in
+      let both = adds_both t _ (asked q from latest) (asked q from replaced) old middle new all (adds_all t (asked q from latest) old middle finding.more finding.same finding.are) adds in
       let are : new ≡ both.more = both.are ∙ ap (λ vs. vs ++ both.more) none in
       let moved : IsPermutation both.more sorted = subst (λ vs. IsPermutation vs sorted) are same in
       record {

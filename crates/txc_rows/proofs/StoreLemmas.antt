@@ -3,86 +3,55 @@ use Rattle.std.proofs.Common.{◌≡◌, ℕ, ◌+◌, ◌≤◌, max, List, [],
 use Rattle.std.specs.List.{AllByRecursion}
 use Rattle.std.specs.List.Sorted.{IsPermutation}
 use Rattle.sqlite.specs.declared.error.Error.{Error}
-use Rattle.sqlite.specs.Held.{Held, state}
-use Rattle.sqlite.specs.Steps.{over_memory}
-use Rattle.sqlite_trees.specs.declared.memory.MemStore.{MemStore}
 use Rattle.txc_rows.specs.declared.query.Change.{Change}
 use Rattle.txc_rows.specs.Versions.{after_net, purged}
 use Rattle.txc_rows.specs.Holdable.{IsStorable}
 use Rattle.txc_rows.specs.declared.placed.Placed.{Placed}
-use Rattle.txc_rows.specs.Placed.{versions_by_place, left_from, placed_left, without_front_dead, AreBelow, AreWellPlaced, AreAll, AreAmong, AreSwept}
-use Rattle.txc_rows.specs.Kept.{latest_in, versions_of, IsKept, IsCall, IsRoom, IsStore}
-use Rattle.txc_rows.proofs.HeldLemmas.{latest_by}
+use Rattle.txc_rows.specs.Placed.{left_from, placed_left, without_front_dead, AreAll, AreSwept}
+use Rattle.txc_rows.specs.Kept.{versions_of, IsRoom, IsStore}
 use Rattle.txc_rows.proofs.SweepLemmas.{both_below, both_apart, left_alone, none_hidden, dropped_each, dropped_apart, dropped_same, purged_left}
 use Rattle.txc_rows.proofs.ViewLemmas.{written_view, view_each}
 
 -- ---- a new store
 
-pub new_store : (h : Held MemStore) → IsKept h → latest_in h ≡ [] → IsStore 0 [] h
-new_store h kept empty = record { kept = kept; apart = rw empty (record { places = tt; keys = tt; current = tt; ended = tt; each = tt }); below = rw empty tt }
-
-pub new_view : (h : Held MemStore) → latest_in h ≡ [] → left_from 0 (versions_of [] h) ≡ []
-new_view h empty = ap (λ (xs : List Placed). left_from 0 (versions_by_place (xs ++ []))) empty
-
--- ---- nothing is written
-
-module _ (replaced : List Placed) (old new : Held MemStore) (same : (state over_memory new).now.trees ≡ (state over_memory old).now.trees) where
-  pub still_store : (next : ℕ) → IsStore next replaced old → IsKept new → IsStore next replaced new
-  still_store next store kept =
-      let are = latest_by old new same in
-      record { kept = kept; apart = subst (λ xs. AreWellPlaced xs replaced) (sym are) store.apart; below = subst (λ xs. AreBelow next (xs ++ replaced)) (sym are) store.below }
-
-  pub still_known : (known : List Placed) → AreAmong (latest_in old) known → AreAmong (latest_in new) known
-  still_known known among = subst (λ xs. AreAmong xs known) (sym (latest_by old new same)) among
-
-  pub same_view : (from : ℕ) → left_from from (versions_of replaced new) ≡ left_from from (versions_of replaced old)
-  same_view from = ap (λ xs. left_from from (versions_by_place (xs ++ replaced))) (latest_by old new same)
+pub new_store : IsStore 0 [] []
+new_store = record { apart = record { places = tt; keys = tt; current = tt; ended = tt; each = tt }; below = tt }
 
 -- ---- room for a write
 
-module _ (from stamp next : ℕ) (before : List Placed) (old new : Held MemStore) (was : IsStore next before old) where
-  pub room_refused : {X : Type 0} (L : List Placed → Type 0) (e f : Error) → IsCall {X = X} L old new (Err e) → IsRoom from stamp next before old before new (Err f)
-  room_refused L e f call = record { store = still_store before old new call.unchanged next was call.kept; low = tt; shown = tt; unchanged = same_view before old new call.unchanged from }
+module _ (from stamp next : ℕ) (before old new : List Placed) (was : IsStore next before old) where
+  pub room_refused : (e : Error) → new ≡ old → IsRoom from stamp next before old before new (Err e)
+  room_refused e same = record { store = subst (IsStore next before) (sym same) was; low = tt; shown = tt; unchanged = ap (λ xs. left_from from (versions_of before xs)) same }
 
-  pub room_left : {X : Type 0} (left : List Placed) (x : X) → left ≡ placed_left from before → IsCall {X = X} (IsPermutation (placed_left from (latest_in old))) old new (Ok x) → IsRoom from stamp next before old left new (Ok 0)
-  room_left left x are call = record {
-    store = record {
-      kept = call.kept;
-      apart = both_apart from (latest_in old) before (latest_in new) left call.leaves are was.apart;
-      below = both_below from (latest_in old) before (latest_in new) left call.leaves are next was.below;
-    };
+  pub room_left : (left : List Placed) → left ≡ placed_left from before → IsPermutation (placed_left from old) new → IsRoom from stamp next before old left new (Ok 0)
+  room_left left are same = record {
+    store = record { apart = both_apart from old before new left same are was.apart; below = both_below from old before new left same are next was.below };
     low = omega arith;
-    shown = none_hidden (versions_of left new) ∙ left_alone from (latest_in old) before (latest_in new) left call.leaves are was.apart;
+    shown = none_hidden (versions_of left new) ∙ left_alone from old before new left same are was.apart;
     unchanged = tt;
   }
 
 -- ---- a purge
 
-pub purged_store : {X : Type 0} (from h next : ℕ) (replaced : List Placed) (old new : Held MemStore) (x : X) → IsStore next replaced old → IsCall {X = X} (AreSwept (max from (h + 1)) (latest_in old)) old new (Ok x)
+pub purged_store : (from h next : ℕ) (replaced old new : List Placed) → IsStore next replaced old → AreSwept (max from (h + 1)) old new
     → IsStore next (without_front_dead (max from (h + 1)) replaced) new × (left_from (max from (h + 1)) (versions_of (without_front_dead (max from (h + 1)) replaced) new) ≡ purged h (left_from from (versions_of replaced old)))
-purged_store from h next replaced old new x store call =
+purged_store from h next replaced old new store swept =
     let last = max from (h + 1) in (
-      record {
-        kept = call.kept;
-        apart = dropped_apart last (latest_in old) replaced (latest_in new) call.leaves store.apart;
-        below = dropped_each last (latest_in old) replaced (latest_in new) call.leaves _ store.below;
-      },
-      dropped_same last (latest_in old) replaced (latest_in new) call.leaves store.apart ∙ purged_left from h (versions_of replaced old),
+      record { apart = dropped_apart last old replaced new swept store.apart; below = dropped_each last old replaced new swept _ store.below },
+      dropped_same last old replaced new swept store.apart ∙ purged_left from h (versions_of replaced old),
     )
 
 -- ---- a write
 
-module _ (from first number stamp next : ℕ) (net : List Change) (before : List Placed) (old : Held MemStore) (middle : List Placed) (mid : Held MemStore) (same_stamp : number ≡ stamp) (room : IsRoom from number next before old middle mid (Ok first)) where
-  pub written_store : {X : Type 0} (replaced : List Placed) (new : Held MemStore) (x : X) → IsCall {X = X} (AreAll (after_net stamp net (versions_of middle mid)) (next + length net) replaced) mid new (Ok x)
+module _ (from first number stamp next : ℕ) (net : List Change) (before old middle mid : List Placed) (same_stamp : number ≡ stamp) (room : IsRoom from number next before old middle mid (Ok first)) where
+  pub written_store : (replaced new : List Placed) → AreAll (after_net stamp net (versions_of middle mid)) (next + length net) replaced new
       → IsStore (next + length net) replaced new × (left_from first (versions_of replaced new) ≡ after_net stamp net (left_from from (versions_of before old))) × AllByRecursion IsStorable (after_net stamp net (left_from from (versions_of before old)))
-  written_store replaced new x call =
-      let all = call.leaves in
-      let is = written_view first stamp (subst (λ n. first ≤ n) same_stamp room.low) net (latest_in mid ++ middle) (latest_in new ++ replaced) (next + length net) all.written ∙ ap (after_net stamp net) room.shown in (
-        record { kept = call.kept; apart = all.apart; below = all.written.below },
+  written_store replaced new all =
+      let is = written_view first stamp (subst (λ n. first ≤ n) same_stamp room.low) net (mid ++ middle) (new ++ replaced) (next + length net) all.written ∙ ap (after_net stamp net) room.shown in (
+        record { apart = all.apart; below = all.written.below },
         is,
-        subst (AllByRecursion IsStorable) is (view_each first (latest_in new ++ replaced) all.apart.each),
+        subst (AllByRecursion IsStorable) is (view_each first (new ++ replaced) all.apart.each),
       )
 
-  pub unwritten_store : {X : Type 0} (L : List Placed → Type 0) (replaced : List Placed) (new : Held MemStore) (e : Error) → replaced ≡ middle → IsCall {X = X} L mid new (Err e)
-      → IsStore next replaced new × (left_from first (versions_of replaced new) ≡ left_from from (versions_of before old))
-  unwritten_store L replaced new e are call = rw are (still_store middle mid new call.unchanged next room.store call.kept, same_view middle mid new call.unchanged first ∙ room.shown)
+  pub unwritten_store : (replaced new : List Placed) → replaced ≡ middle → new ≡ mid → IsStore next replaced new × (left_from first (versions_of replaced new) ≡ left_from from (versions_of before old))
+  unwritten_store replaced new are same = rw (are, same) (room.store, room.shown)

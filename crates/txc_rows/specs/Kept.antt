@@ -23,9 +23,9 @@ use Rattle.txc_rows.specs.Stored.{placed_all, placed_from, AreVersionRows, AreCe
 abbrev pub latest_in : Held MemStore → List Placed
 latest_in h = placed_all ((state over_memory h).now.trees 0)
 
--- they and those that were replaced, in the order in which they were put
-abbrev pub versions_of : List Placed → Held MemStore → List Versioned
-versions_of replaced h = versions_by_place (latest_in h ++ replaced)
+-- the last versions and those that were replaced, in the order in which they were put
+abbrev pub versions_of : List Placed → List Placed → List Versioned
+versions_of replaced latest = versions_by_place (latest ++ replaced)
 
 -- no table is there
 pub record HasNoTable (h : Held MemStore) : Type 0 where
@@ -126,16 +126,14 @@ pub record AddsAround (t : ℕ) (all old new : List Versioned) : Type 0 where
 
 -- ---- a store
 
--- the table and the replaced versions are in order, and each version has a lower place than the next one
-pub record IsStore (next : ℕ) (replaced : List Placed) (h : Held MemStore) : Type 0 where
-  pub kept : IsKept h
-  pub apart : AreWellPlaced (latest_in h) replaced
-  pub below : AreBelow next (latest_in h ++ replaced)
+-- the last and the replaced versions are in order, and each version has a lower place than the next one
+pub record IsStore (next : ℕ) (replaced latest : List Placed) : Type 0 where
+  pub apart : AreWellPlaced latest replaced
+  pub below : AreBelow next (latest ++ replaced)
 
 -- the store may write: its versions are as they were, and those that died at the stamp are not hidden. Or it is refused,
 -- and the same versions are shown from the stamp from which they were.
-pub record IsRoom (from stamp next : ℕ) (before : List Placed) (old : Held MemStore) (replaced : List Placed)
-    (new : Held MemStore) (outcome : Result ℕ Error) : Type 0 where
+pub record IsRoom (from stamp next : ℕ) (before old replaced new : List Placed) (outcome : Result ℕ Error) : Type 0 where
   pub store : IsStore next replaced new
   pub low : IfOk outcome (λ first. first ≤ stamp)
   pub shown : IfOk outcome (λ first. left_from first (versions_of replaced new) ≡ left_from from (versions_of before old))

@@ -13,6 +13,8 @@ pub mod Placed
 pub mod Stored
 pub mod Indexed
 pub mod Kept
+pub mod Slotted
+pub mod Lasting
 pub mod Keeping
 pub mod Around
 pub mod Uses

@@ -2,7 +2,9 @@
 #![tactic(auto)]
 
 mod counts;
+mod current;
 mod decode;
+mod latest;
 mod laws;
 mod placed;
 mod query;

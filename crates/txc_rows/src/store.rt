@@ -4,39 +4,30 @@ ghost use Rattle.std.specs.Prelude.{◌≡◌, ◌≢◌, ℕ, ◌+◌, ◌-◌,
 ghost use Rattle.std.specs.List.{AllByRecursion};
 ghost use Rattle.std.specs.List.Sorted.{IsPermutation, IsSorted};
 ghost use Rattle.txc_rows.specs.Versions.{suits, current, purged, after_net, version_cmp};
-ghost use Rattle.txc_rows.specs.declared.query.Query.TheVariants.{ById};
 ghost use Rattle.txc_rows.specs.Placed.{version_of, left_from, AreAmong, AreSwept, AreWellPlaced};
-ghost use Rattle.txc_rows.specs.Kept.{latest_in, versions_of, IsKept, IsCall, IsSame, IsRoom, IsFinding, IsStore};
+ghost use Rattle.txc_rows.specs.Kept.{versions_of, IsRoom, IsStore};
 ghost use Rattle.txc_rows.specs.Holdable.{IsStorable};
 ghost use Rattle.txc_rows.specs.Found.{Finds, FindsAround};
 ghost use Rattle.txc_rows.specs.StoreErrors.{IsStoreRefusal};
-ghost use Rattle.txc_rows.specs.declared.store.TheConstants.{MOST_KNOWN};
+ghost use Rattle.txc_rows.specs.declared.latest.TheConstants.{MOST_KNOWN};
 ghost use Rattle.txc_rows.specs.declared.store_error.TheConstants.{MAX_MATCHING, MOST_MATCHING};
 
 use crate::counts::Counts;
-use crate::decode::{add_known, add_shown};
+use crate::latest::Latest;
 use crate::placed::Placed;
 use crate::query::{Change, Query};
-use crate::reads::{read, read_placed};
 use crate::replaced::Replaced;
-use crate::statements::{create, rebuild};
 use crate::store_error::{MAX_MATCHING, StoreError};
 use crate::version::Versioned;
-use crate::writes::write_all;
-use sqlite::{Connection, MemStore};
 use std::alloc::Global;
 use std::marker::Model;
 use txc_stamp::Stamp;
-use txc_tags::Table;
 
-/// Where so many last versions are known, they are forgotten for others.
-const MOST_KNOWN: usize = 256;
-
-/// Row versions by the stamps that are stored: the last of each table, id and group in a table of SQLite, and those that
-/// later ones replaced beside it. Contracts see the list of its versions, the earliest put first.
+/// Row versions by the stamps that are stored: the last ones, and those that later ones replaced beside them. Contracts see the
+/// list of its versions, the earliest put first.
 #[derive(Drop)]
 pub struct Store {
-    conn: Connection<MemStore>,
+    latest: Latest,
     replaced: Replaced,
     /// The place of the next version: each that is stored has a lower one.
     next_place: u32,
@@ -50,28 +41,18 @@ pub struct Store {
 
 impl Model for Store {
     ghost use Rattle.std.specs.Prelude.{List, length, ◌+◌, ◌≤◌};
-    ghost use Rattle.txc_rows.specs.declared.store.TheConstants.{MOST_KNOWN};
+    ghost use Rattle.txc_rows.specs.declared.latest.TheConstants.{MOST_KNOWN};
     ghost use Rattle.txc_rows.specs.declared.store_error.TheConstants.{MOST_MATCHING};
     ghost use Rattle.txc_rows.specs.declared.version.Versioned.{Versioned};
     ghost use Rattle.txc_rows.specs.Placed.{left_from, AreAmong};
-    ghost use Rattle.txc_rows.specs.Kept.{latest_in, versions_of, IsStore};
+    ghost use Rattle.txc_rows.specs.Kept.{versions_of, IsStore};
 
     ghost Value = { List Versioned };
 
-    ghost view = { λ a. left_from a.kept_from (versions_of a.replaced a.conn) };
+    ghost view = { λ a. left_from a.kept_from (versions_of a.replaced a.latest) };
 
-    ghost invariant = { λ a. IsStore a.next_place a.replaced a.conn × AreAmong (latest_in a.conn) a.known.items
+    ghost invariant = { λ a. IsStore a.next_place a.replaced a.latest × AreAmong a.latest a.known.items
         × (length a.known.items ≤ MOST_KNOWN + MOST_MATCHING) };
-}
-
-/// A connection with the table and no version.
-fn open_table(alloc: Global) -> Result<Connection<MemStore>, sqlite::Error>
-    ensures kept { IfOk result IsKept }
-    ensures empty { IfOk result (λ conn. latest_in conn ≡ []) }
-{
-    let mut conn = Connection::open_in_memory(alloc)?;
-    create(&mut conn)?;
-    Ok(conn)
 }
 
 /// The next place after so many more versions, if there are so many.
@@ -85,17 +66,14 @@ fn place_after(place: u32, more: usize) -> Result<u32, sqlite::Error>
     Ok(place + more as u32)
 }
 
-/// Makes the table anew without what died before the stamp, where that is as much as what is left.
-fn sweep(
-    conn: &mut Connection<MemStore>,
-    counts: &mut Counts,
-    from: u32,
-) -> Result<(), sqlite::Error>
-    requires { IsKept conn.old }
-    ensures { IsCall (AreSwept from (latest_in conn.old)) conn.old conn.new result }
+/// Makes a table of last versions anew without what died before the stamp, where that is as much as what is left.
+fn sweep(latest: &mut Latest, counts: &mut Counts, from: u32) -> Result<(), sqlite::Error>
+    requires { AllByRecursion (λ x. IsStorable x.version) latest.old }
+    ensures swept { OnOk result (AreSwept from latest.old latest.new) }
+    ensures unchanged { OnErr result (latest.new ≡ latest.old) }
 {
     if counts.is_mostly_ended(from) {
-        let rows = rebuild(conn, from)?;
+        let rows = latest.leave_out(from)?;
         counts.rebuilt(rows);
     }
     Ok(())
@@ -103,7 +81,7 @@ fn sweep(
 
 /// Before a write at the stamp: no death at the stamp is hidden. It answers from which stamp on deaths are shown.
 fn make_room(
-    conn: &mut Connection<MemStore>,
+    latest: &mut Latest,
     replaced: &mut Replaced,
     known: &mut Vec<Placed>,
     alloc: Global,
@@ -111,11 +89,11 @@ fn make_room(
     kept_from: u32,
     stamp: u32,
 ) -> Result<u32, sqlite::Error>
-    requires kept { IsKept conn.old }
-    requires known { AreAmong (latest_in conn.old) known.old.items }
-    ensures room { (next : ℕ) → IsStore next replaced.old conn.old
-        → IsRoom kept_from stamp next replaced.old conn.old replaced.new conn.new result }
-    ensures known { AreAmong (latest_in conn.new) known.new.items }
+    requires known { AreAmong latest.old known.old.items }
+    requires each { AllByRecursion (λ x. IsStorable x.version) latest.old }
+    ensures room { (next : ℕ) → IsStore next replaced.old latest.old
+        → IsRoom kept_from stamp next replaced.old latest.old replaced.new latest.new result }
+    ensures known { AreAmong latest.new known.new.items }
 {
     if stamp >= kept_from {
         return Ok(kept_from);
@@ -124,107 +102,10 @@ fn make_room(
     let Ok(left) = replaced.left(alloc, kept_from) else {
         return Err(sqlite::Error::SqliteFailure(sqlite::ErrorCode::OutOfMemory));
     };
-    let rows = rebuild(conn, kept_from)?;
+    let rows = latest.leave_out(kept_from)?;
     *replaced = left;
     counts.rebuilt(rows);
     Ok(0)
-}
-
-/// The last versions that match, of those that did not die before the stamp, are added to the found ones, which may be so
-/// many. That many are read at most, and one more, which shows that too many match.
-fn find(
-    conn: &mut Connection<MemStore>,
-    query: &Query,
-    from: u32,
-    most: usize,
-    found: &mut Vec<Versioned>,
-) -> Result<(), StoreError>
-    requires kept { IsKept conn.old }
-    requires few { length found.old.items ≤ most }
-    requires most { most ≤ MOST_MATCHING }
-    ensures same { IsSame conn.old conn.new }
-    ensures finds { OnOk result (IsFinding query.now from (latest_in conn.old) found.old.items found.new.items) }
-    ensures few { OnOk result (length found.new.items ≤ most) }
-    ensures refused { result ≡ Err StoreError.TooManyRows
-        → most < length found.old.items + length (filter (suits query.now) (left_from from (map version_of (latest_in conn.old)))) }
-{
-    let rows = read(conn, query, from, most as u32 + 1)?;
-    if rows.len() > most - found.len() {
-        return Err(StoreError::TooManyRows);
-    }
-    add_shown(query.table(), &rows, found)
-}
-
-/// Where many are known, they are known no longer.
-fn forget_many(known: &mut Vec<Placed>)
-    ensures among { (latest : _) → AreAmong latest known.old.items → AreAmong latest known.new.items }
-    ensures few { length known.new.items < MOST_KNOWN }
-{
-    if known.len() < MOST_KNOWN {
-        return;
-    }
-    known.clear();
-}
-
-/// The last versions of a table and id that did not die before the stamp are added to the found ones, and are known.
-fn find_row(
-    conn: &mut Connection<MemStore>,
-    known: &mut Vec<Placed>,
-    alloc: Global,
-    table: Table,
-    id: u32,
-    from: u32,
-    most: usize,
-    found: &mut Vec<Versioned>,
-) -> Result<(), StoreError>
-    requires kept { IsKept conn.old }
-    requires known { AreAmong (latest_in conn.old) known.old.items }
-    requires few { length found.old.items ≤ most }
-    requires most { most ≤ MOST_MATCHING }
-    ensures same { IsSame conn.old conn.new }
-    ensures known { AreAmong (latest_in conn.old) known.new.items }
-    ensures few_known { length known.old.items ≤ MOST_KNOWN + MOST_MATCHING
-        → length known.new.items ≤ MOST_KNOWN + MOST_MATCHING }
-    ensures finds { OnOk result (IsFinding (ById table id) from (latest_in conn.old) found.old.items found.new.items) }
-    ensures few { OnOk result (length found.new.items ≤ most) }
-    ensures refused { result ≡ Err StoreError.TooManyRows
-        → most < length found.old.items + length (filter (suits (ById table id)) (left_from from (map version_of (latest_in conn.old)))) }
-{
-    let rows = read_placed(conn, table, id, from)?;
-    if rows.len() > most - found.len() {
-        return Err(StoreError::TooManyRows);
-    }
-    forget_many(known);
-    add_known(alloc, table, &rows, known, found)
-}
-
-/// The last versions that match, as `find` has them. Those of one row are known from then on.
-fn find_known(
-    conn: &mut Connection<MemStore>,
-    known: &mut Vec<Placed>,
-    alloc: Global,
-    query: &Query,
-    from: u32,
-    most: usize,
-    found: &mut Vec<Versioned>,
-) -> Result<(), StoreError>
-    requires kept { IsKept conn.old }
-    requires known { AreAmong (latest_in conn.old) known.old.items }
-    requires few { length found.old.items ≤ most }
-    requires most { most ≤ MOST_MATCHING }
-    ensures same { IsSame conn.old conn.new }
-    ensures known { AreAmong (latest_in conn.old) known.new.items }
-    ensures few_known { length known.old.items ≤ MOST_KNOWN + MOST_MATCHING
-        → length known.new.items ≤ MOST_KNOWN + MOST_MATCHING }
-    ensures finds { OnOk result (IsFinding query.now from (latest_in conn.old) found.old.items found.new.items) }
-    ensures few { OnOk result (length found.new.items ≤ most) }
-    ensures refused { result ≡ Err StoreError.TooManyRows
-        → most < length found.old.items + length (filter (suits query.now) (left_from from (map version_of (latest_in conn.old)))) }
-{
-    match *query {
-        Query::ById(table, id) => find_row(conn, known, alloc, table, id, from, most, found),
-        _ => find(conn, query, from, most, found),
-    }
 }
 
 /// Refuses a query of which too many versions match, those that were replaced beside so many last ones. They are counted
@@ -265,22 +146,21 @@ fn sort(versions: &mut Vec<Versioned>) -> Result<(), StoreError>
 
 /// The versions that match, of those that did not die before the stamp, by id and then by birth.
 fn find_all(
-    conn: &mut Connection<MemStore>,
+    latest: &mut Latest,
     replaced: &Replaced,
     alloc: Global,
     query: &Query,
     from: u32,
 ) -> Result<Vec<Versioned>, StoreError>
-    requires kept { IsKept conn.old }
-    requires apart { AreWellPlaced (latest_in conn.old) replaced.now }
-    ensures same { IsSame conn.old conn.new }
-    ensures finds { IfOk result (λ found. Finds query.now (left_from from (versions_of replaced.now conn.old)) found.items) }
+    requires apart { AreWellPlaced latest.old replaced.now }
+    ensures same { latest.new ≡ latest.old }
+    ensures finds { IfOk result (λ found. Finds query.now (left_from from (versions_of replaced.now latest.old)) found.items) }
     ensures bound { IfOk result (λ found. length found.items ≤ MAX_MATCHING) }
     ensures refused { result ≡ Err StoreError.TooManyRows
-        → MAX_MATCHING < length (filter (suits query.now) (left_from from (versions_of replaced.now conn.old))) }
+        → MAX_MATCHING < length (filter (suits query.now) (left_from from (versions_of replaced.now latest.old))) }
 {
     let mut found = Vec::new(alloc);
-    find(conn, query, from, MAX_MATCHING, &mut found)?;
+    latest.find(alloc, query, from, MAX_MATCHING, &mut found)?;
     check_few(replaced, query, from, found.len(), MAX_MATCHING)?;
     replaced.find(alloc, query, from as usize, &mut found)?;
     sort(&mut found)?;
@@ -290,7 +170,7 @@ fn find_all(
 /// Of the versions that match and did not die before the stamp `from`, those that are not needless at the stamp `at`, by id
 /// and then by birth.
 fn find_around(
-    conn: &mut Connection<MemStore>,
+    latest: &mut Latest,
     replaced: &Replaced,
     alloc: Global,
     query: &Query,
@@ -298,18 +178,17 @@ fn find_around(
     at: usize,
     most: usize,
 ) -> Result<Vec<Versioned>, StoreError>
-    requires kept { IsKept conn.old }
-    requires apart { AreWellPlaced (latest_in conn.old) replaced.now }
+    requires apart { AreWellPlaced latest.old replaced.now }
     requires most { most ≤ MOST_MATCHING }
     requires room { at < 2 ^ 64 - 1 }
-    ensures same { IsSame conn.old conn.new }
-    ensures finds { IfOk result (λ found. FindsAround query.now at (left_from from (versions_of replaced.now conn.old)) found.items) }
-    ensures bound { OnOk result (length (filter (suits query.now) (left_from from (versions_of replaced.now conn.old))) ≤ most) }
+    ensures same { latest.new ≡ latest.old }
+    ensures finds { IfOk result (λ found. FindsAround query.now at (left_from from (versions_of replaced.now latest.old)) found.items) }
+    ensures bound { OnOk result (length (filter (suits query.now) (left_from from (versions_of replaced.now latest.old))) ≤ most) }
     ensures refused { result ≡ Err StoreError.TooManyRows
-        → most < length (filter (suits query.now) (left_from from (versions_of replaced.now conn.old))) }
+        → most < length (filter (suits query.now) (left_from from (versions_of replaced.now latest.old))) }
 {
     let mut found = Vec::new(alloc);
-    find(conn, query, from, most, &mut found)?;
+    latest.find(alloc, query, from, most, &mut found)?;
     check_few(replaced, query, from, found.len(), most)?;
     replaced.find_around(alloc, query, from as usize, at, &mut found)?;
     sort(&mut found)?;
@@ -318,7 +197,7 @@ fn find_around(
 
 /// The last versions that match, of those that did not die before the stamp.
 fn find_last(
-    conn: &mut Connection<MemStore>,
+    latest: &mut Latest,
     known: &mut Vec<Placed>,
     replaced: &Replaced,
     alloc: Global,
@@ -326,29 +205,28 @@ fn find_last(
     from: u32,
     most: usize,
 ) -> Result<Vec<Versioned>, StoreError>
-    requires kept { IsKept conn.old }
-    requires known { AreAmong (latest_in conn.old) known.old.items }
-    requires apart { AreWellPlaced (latest_in conn.old) replaced.now }
+    requires known { AreAmong latest.old known.old.items }
+    requires apart { AreWellPlaced latest.old replaced.now }
     requires most { most ≤ MOST_MATCHING }
-    ensures same { IsSame conn.old conn.new }
-    ensures known { AreAmong (latest_in conn.old) known.new.items }
+    ensures same { latest.new ≡ latest.old }
+    ensures known { AreAmong latest.old known.new.items }
     ensures few_known { length known.old.items ≤ MOST_KNOWN + MOST_MATCHING
         → length known.new.items ≤ MOST_KNOWN + MOST_MATCHING }
     ensures finds { IfOk result (λ found. IsPermutation
-        (filter (suits query.now) (current (left_from from (versions_of replaced.now conn.old)))) (current found.items)) }
-    ensures bound { OnOk result (length (filter (suits query.now) (left_from from (versions_of replaced.now conn.old))) ≤ most) }
+        (filter (suits query.now) (current (left_from from (versions_of replaced.now latest.old)))) (current found.items)) }
+    ensures bound { OnOk result (length (filter (suits query.now) (left_from from (versions_of replaced.now latest.old))) ≤ most) }
     ensures refused { result ≡ Err StoreError.TooManyRows
-        → most < length (filter (suits query.now) (left_from from (versions_of replaced.now conn.old))) }
+        → most < length (filter (suits query.now) (left_from from (versions_of replaced.now latest.old))) }
 {
     let mut last = Vec::new(alloc);
-    find_known(conn, known, alloc, query, from, most, &mut last)?;
+    latest.find_known(known, alloc, query, from, most, &mut last)?;
     check_few(replaced, query, from, last.len(), most)?;
     Ok(last)
 }
 
 /// The versions that match and have not died, by id and then by birth.
 fn find_current(
-    conn: &mut Connection<MemStore>,
+    latest: &mut Latest,
     known: &mut Vec<Placed>,
     replaced: &Replaced,
     alloc: Global,
@@ -356,20 +234,19 @@ fn find_current(
     from: u32,
     most: usize,
 ) -> Result<Vec<Versioned>, StoreError>
-    requires kept { IsKept conn.old }
-    requires known { AreAmong (latest_in conn.old) known.old.items }
-    requires apart { AreWellPlaced (latest_in conn.old) replaced.now }
+    requires known { AreAmong latest.old known.old.items }
+    requires apart { AreWellPlaced latest.old replaced.now }
     requires most { most ≤ MOST_MATCHING }
-    ensures same { IsSame conn.old conn.new }
-    ensures known { AreAmong (latest_in conn.old) known.new.items }
+    ensures same { latest.new ≡ latest.old }
+    ensures known { AreAmong latest.old known.new.items }
     ensures few_known { length known.old.items ≤ MOST_KNOWN + MOST_MATCHING
         → length known.new.items ≤ MOST_KNOWN + MOST_MATCHING }
-    ensures finds { IfOk result (λ found. Finds query.now (current (left_from from (versions_of replaced.now conn.old))) found.items) }
-    ensures bound { OnOk result (length (filter (suits query.now) (left_from from (versions_of replaced.now conn.old))) ≤ most) }
+    ensures finds { IfOk result (λ found. Finds query.now (current (left_from from (versions_of replaced.now latest.old))) found.items) }
+    ensures bound { OnOk result (length (filter (suits query.now) (left_from from (versions_of replaced.now latest.old))) ≤ most) }
     ensures refused { result ≡ Err StoreError.TooManyRows
-        → most < length (filter (suits query.now) (left_from from (versions_of replaced.now conn.old))) }
+        → most < length (filter (suits query.now) (left_from from (versions_of replaced.now latest.old))) }
 {
-    let mut found = find_last(conn, known, replaced, alloc, query, from, most)?;
+    let mut found = find_last(latest, known, replaced, alloc, query, from, most)?;
     found.retain(|version| version.died.is_none());
     sort(&mut found)?;
     Ok(found)
@@ -380,16 +257,30 @@ impl Store {
         ensures answer { IfOk result (λ rows. rows ≡ []) }
         ensures refused { IfErr result IsStoreRefusal }
     {
-        let conn = open_table(alloc)?;
-        Ok(Store {
-            conn,
+        let latest = Latest::of_table(alloc)?;
+        Ok(Store::of(latest, alloc))
+    }
+
+    /// A store whose last versions lie in no table.
+    pub(crate) fn open_plain(alloc: Global) -> Store
+        ensures { result ≡ [] }
+    {
+        Store::of(Latest::of_slots(alloc), alloc)
+    }
+
+    fn of(latest: Latest, alloc: Global) -> Store
+        requires { latest ≡ [] }
+        ensures { result ≡ [] }
+    {
+        Store {
+            latest,
             replaced: Replaced::new(alloc),
             next_place: 0,
             kept_from: 0,
             known: Vec::new(alloc),
             counts: Counts::NONE,
             alloc,
-        })
+        }
     }
 
     pub(crate) fn matching(&mut self, query: &Query) -> Result<Vec<Versioned>, StoreError>
@@ -400,7 +291,7 @@ impl Store {
             → MAX_MATCHING < length (filter (suits query.now) self.old) }
     {
         find_all(
-            &mut self.conn,
+            &mut self.latest,
             &self.replaced,
             self.alloc,
             query,
@@ -424,7 +315,7 @@ impl Store {
             → most < length (filter (suits query.now) self.old) }
     {
         find_around(
-            &mut self.conn,
+            &mut self.latest,
             &self.replaced,
             self.alloc,
             query,
@@ -447,7 +338,7 @@ impl Store {
             → most < length (filter (suits query.now) self.old) }
     {
         find_current(
-            &mut self.conn,
+            &mut self.latest,
             &mut self.known,
             &self.replaced,
             self.alloc,
@@ -468,7 +359,7 @@ impl Store {
         let number = stamp.number();
         let mut known = std::mem::replace(&mut self.known, Vec::new(self.alloc));
         let kept_from = make_room(
-            &mut self.conn,
+            &mut self.latest,
             &mut self.replaced,
             &mut known,
             self.alloc,
@@ -477,8 +368,7 @@ impl Store {
             number,
         )?;
         self.kept_from = kept_from;
-        let written = write_all(
-            &mut self.conn,
+        let written = self.latest.write(
             &mut self.replaced,
             &mut known,
             self.alloc,
@@ -498,7 +388,7 @@ impl Store {
     {
         let from = self.kept_from.max(horizon.number() + 1);
         self.known.clear();
-        sweep(&mut self.conn, &mut self.counts, from)?;
+        sweep(&mut self.latest, &mut self.counts, from)?;
         self.replaced.purge(from);
         self.counts.hide(from);
         self.kept_from = from;
@@ -513,6 +403,6 @@ impl Store {
     pub(crate) fn set_step_limit(&mut self, limit: Option<u64>)
         ensures { self.new ≡ self.old }
     {
-        self.conn.set_step_limit(limit);
+        self.latest.set_step_limit(limit);
     }
 }

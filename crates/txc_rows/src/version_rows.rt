@@ -18,8 +18,8 @@ use std::alloc::Global;
 use std::marker::Model;
 use txc_stamp::{MOST_STAMP, Stamp};
 
-/// Row versions in a store in memory: the last of each table, id and group in a table of SQLite, and those that later ones
-/// replaced beside it. Contracts see the list of its versions, the earliest put first.
+/// Row versions in a store in memory: the last ones in a table of SQLite or in ordered maps, and those that later ones replaced
+/// beside them. Contracts see the list of its versions, the earliest put first.
 pub struct VersionRows {
     slot: StoreSlot,
     alloc: Global,
@@ -111,14 +111,37 @@ fn begin_store_at(store: &mut Store, stored: Stamp) -> Result<(), StoreError>
 }
 
 impl VersionRows {
-    /// A store that has no version. It is refused where the store is out of memory.
+    /// A store that has no version. The last version of each table, id and group lies in a table of SQLite. It is refused where the
+    /// store is out of memory.
     pub fn open_in_memory(alloc: Global) -> Result<VersionRows, StoreError>
         ensures answer { IfOk result (λ rows. rows ≡ []) }
         ensures keeps { IfOk result (λ rows.
             (states : ℕ → State) → states 0 ≡ [] → KeepsStates states 0 0 rows) }
         ensures refused { IfErr result IsStoreRefusal }
     {
-        let Ok(store) = Box::new(alloc, Store::open_in_memory(alloc)?) else {
+        VersionRows::hold(Store::open_in_memory(alloc)?, alloc)
+    }
+
+    /// A store that has no version. The current ones will lie in ordered maps, by table and id and by table and group: a change
+    /// takes a small part of the time that it takes in SQLite. It is refused where the store is out of memory.
+    pub fn open_plain(alloc: Global) -> Result<VersionRows, StoreError>
+        ensures answer { IfOk result (λ rows. rows ≡ []) }
+        ensures keeps { IfOk result (λ rows.
+            (states : ℕ → State) → states 0 ≡ [] → KeepsStates states 0 0 rows) }
+        ensures refused { IfErr result IsStoreRefusal }
+    {
+        VersionRows::hold(Store::open_plain(alloc), alloc)
+    }
+
+    /// Holds a store that has no version.
+    fn hold(store: Store, alloc: Global) -> Result<VersionRows, StoreError>
+        requires { store ≡ [] }
+        ensures answer { IfOk result (λ rows. rows ≡ []) }
+        ensures keeps { IfOk result (λ rows.
+            (states : ℕ → State) → states 0 ≡ [] → KeepsStates states 0 0 rows) }
+        ensures refused { IfErr result IsStoreRefusal }
+    {
+        let Ok(store) = Box::new(alloc, store) else {
             return Err(StoreError::StoreMemory);
         };
         Ok(VersionRows {

@@ -33,7 +33,7 @@ pub(crate) struct Written {
 }
 
 impl Written {
-    const NOTHING: Written = Written {
+    pub(crate) const NOTHING: Written = Written {
         ended: 0,
         revived: 0,
         added: 0,
@@ -250,7 +250,11 @@ fn end_moved(
 }
 
 /// The last version of the group, if there is one, is replaced, and dies at the stamp if it has not died.
-fn replace(replaced: &mut Replaced, last: Option<Placed>, stamp: Stamp) -> Result<usize, Error>
+pub(crate) fn replace(
+    replaced: &mut Replaced,
+    last: Option<Placed>,
+    stamp: Stamp,
+) -> Result<usize, Error>
     ensures added { OnOk result (replaced.new ≡ replaced.old
         ++ map (λ x. closed_placed x.version.row.table x.version.row.id stamp x) (option_to_list last)) }
     ensures unchanged { OnErr result (replaced.new ≡ replaced.old) }
@@ -313,7 +317,7 @@ fn write_put(
     requires known { AreAmong (latest_in tx.old.conn.now) known.now }
     ensures same_reference { tx.new.conn.ghost_name ≡ tx.old.conn.ghost_name }
     ensures step { IsStep
-        (HasWritten (put row.now stamp (versions_of replaced.old tx.old.conn.now)) (place + 1) replaced.new)
+        (HasWritten (put row.now stamp (versions_of replaced.old (latest_in tx.old.conn.now))) (place + 1) replaced.new)
         tx.old.conn.now tx.new.conn.now result }
     ensures others { OnOk result (KeepsOthers row.now.table row.now.id (latest_in tx.old.conn.now) (latest_in tx.new.conn.now)) }
     ensures longer { AddsAtEnd replaced.old replaced.new }
@@ -350,7 +354,7 @@ fn write_change(
     requires known { AreAmong (latest_in tx.old.conn.now) known.old.items }
     ensures same_reference { tx.new.conn.ghost_name ≡ tx.old.conn.ghost_name }
     ensures step { IsStep
-        (HasWritten (after_write stamp change.now (versions_of replaced.old tx.old.conn.now)) (place + 1) replaced.new)
+        (HasWritten (after_write stamp change.now (versions_of replaced.old (latest_in tx.old.conn.now))) (place + 1) replaced.new)
         tx.old.conn.now tx.new.conn.now result }
     ensures known { OnOk result (AreAmong (latest_in tx.new.conn.now) known.new.items) }
     ensures longer { AddsAtEnd replaced.old replaced.new }
@@ -389,7 +393,7 @@ fn write_table(
     requires room { place + length net.now < 2 ^ 32 }
     requires known { AreAmong (latest_in conn.old) known.old.items }
     ensures call { IsCall
-        (AreAll (after_net stamp net.now (versions_of replaced.old conn.old)) (place + length net.now) replaced.new)
+        (AreAll (after_net stamp net.now (versions_of replaced.old (latest_in conn.old))) (place + length net.now) replaced.new)
         conn.old conn.new result }
     ensures longer { AddsAtEnd replaced.old replaced.new }
 {
@@ -422,7 +426,7 @@ pub(crate) fn write_all(
     requires room { place + length net.now < 2 ^ 32 }
     requires known { AreAmong (latest_in conn.old) known.old.items }
     ensures call { IsCall
-        (AreAll (after_net stamp net.now (versions_of replaced.old conn.old)) (place + length net.now) replaced.new)
+        (AreAll (after_net stamp net.now (versions_of replaced.old (latest_in conn.old))) (place + length net.now) replaced.new)
         conn.old conn.new result }
     ensures unchanged { OnErr result (replaced.new ≡ replaced.old) }
 {

@@ -1,4 +1,4 @@
-"""How the shop's page looks."""
+"""The look of the shop's page."""
 
 import html
 import time

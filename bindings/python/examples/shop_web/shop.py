@@ -12,7 +12,7 @@ from typing import Any, Callable, Dict, Iterator, List, NamedTuple, Optional, Se
 
 PRODUCTS = {1: ("Teapot", 24), 2: ("Kettle", 45), 3: ("Cup", 8), 4: ("Tray", 15), 5: ("Spoon", 3), 6: ("Honey", 11)}
 SHIPPED = 60  # of each product
-MOST_OPEN = 12  # orders of a product; then one is returned
+MAX_OPEN_ORDERS = 12  # orders of a product; then one is returned
 TOLD = {"demo_products": ["id"], "demo_orders": ["id", "product"], "demo_till": []}
 TABLES = ["CREATE TABLE IF NOT EXISTS demo_products (id integer PRIMARY KEY, stock integer NOT NULL)",
           "CREATE TABLE IF NOT EXISTS demo_orders (id integer PRIMARY KEY, product integer NOT NULL, quantity integer NOT NULL, paid integer NOT NULL)",
@@ -38,7 +38,7 @@ PARTS = [*((part, (product,)) for product in PRODUCTS for part in (stock, orders
 
 
 class Shown(NamedTuple):
-    """A page: its parts in the order of `PARTS`, and which were hits. `moment` and `age` are there if the cache knows them."""
+    """A page: its parts in the order of `PARTS`, and which were hits. It has a `moment` and an `age` if the cache knows them."""
 
     values: List[Any]
     hits: List[bool]
@@ -83,7 +83,7 @@ class Database:
 
     @contextlib.contextmanager
     def cursor(self) -> Iterator[Any]:
-        """Lends a cursor over a connection that nobody else uses meanwhile."""
+        """Lends a cursor over a connection that no other thread uses meanwhile."""
         try:
             link = self._spare.get(block=False)
         except queue.Empty:
@@ -130,7 +130,7 @@ def trade(database: Database, cursor: Any, product: int, rand: random.Random) ->
     ask = database.ask
     ask(cursor, "UPDATE demo_till SET amount = amount WHERE id = 1")  # customers take turns, and so nobody waits in a circle
     open_orders = ask(cursor, "SELECT id, quantity, paid FROM demo_orders WHERE product = %s ORDER BY id", (product,))
-    if len(open_orders) >= MOST_OPEN:
+    if len(open_orders) >= MAX_OPEN_ORDERS:
         oldest = open_orders[0]
         quantity, paid = -oldest["quantity"], -oldest["paid"]
         ask(cursor, "DELETE FROM demo_orders WHERE id = %s", (oldest["id"],))

@@ -1,4 +1,4 @@
-"""Of INSTALLED_APPS: it brings `manage.py txcache`."""
+"""The application for INSTALLED_APPS, which brings `manage.py txcache`."""
 
 from django.apps import AppConfig
 

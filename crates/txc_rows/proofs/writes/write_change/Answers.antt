@@ -12,7 +12,7 @@ returns-in_ok-ended-in-Remove-clause-step c =
     let replaced = c.args.replaced.now in
     let step = c.in_ok-ended-in-Remove.ensures.step in
     record {
-      leaves = subst (λ it. HasWritten (after_write c.args.stamp it (versions_of replaced old)) (c.args.place + 1) replaced end) (sym c.in-Remove.is)
+      leaves = subst (λ it. HasWritten (after_write c.args.stamp it (versions_of replaced (latest_in old))) (c.args.place + 1) replaced end) (sym c.in-Remove.is)
           (record {
             table = step.leaves.table;
             all = rw step.leaves.latest_are (removed_all c.in-Remove.table c.in-Remove.id c.args.stamp c.args.place c.in_ok-ended-in-Remove.ensures.stamp (latest_in old) replaced c.requires.apart c.requires.below);

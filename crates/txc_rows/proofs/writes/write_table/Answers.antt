@@ -21,7 +21,7 @@ use Rattle.txc_rows.proofs.writes.write_table.Goals as goal
 
 -- a transaction begins with what there is
 begun_written : (next : ℕ) (replaced : List Placed) (h tx : Held MemStore) → (state over_memory tx).now ≡ (state over_memory h).now → IsKept h → AreWellPlaced (latest_in h) replaced → AreBelow next (latest_in h ++ replaced)
-    → HasWritten (versions_of replaced tx) next replaced tx
+    → HasWritten (versions_of replaced (latest_in tx)) next replaced tx
 begun_written next replaced h tx now kept apart below = record {
   table = table_by h tx kept.table now;
   all = record {
@@ -56,7 +56,7 @@ returns-in_err-one-clause-call c =
     let base : (state over_memory mid).committed ≡ (state over_memory old).committed = c.in_err-one.ensures.step.base ∙ c.loop-change.invariant.base in
     let kept = undone_call old mid end c.requires.kept base (c.drop-tx.ensures.undone (memory_is_clean end)) in
     let p = err_from_is_err_and c.from_residual.result c.from_residual.ensures.1 in
-    let leaves = AreAll (after_net c.args.stamp c.args.net.now (versions_of c.args.replaced.now old)) (c.args.place + length c.args.net.now) c.write_change.new.replaced in
+    let leaves = AreAll (after_net c.args.stamp c.args.net.now (versions_of c.args.replaced.now (latest_in old))) (c.args.place + length c.args.net.now) c.write_change.new.replaced in
     rw p.1 (subst (λ h. IsCall leaves old h (Err p.0)) same (refused_call leaves old end p.0 kept))
 
 pub returns-in_err-one-clause-longer : goal.returns-in_err-one-clause-longer
@@ -64,7 +64,7 @@ returns-in_err-one-clause-longer c = longer_then c.args.replaced.now c.loop-chan
 
 -- what a commit of all changes is to leave
 abbrev Written : After-commit → List Placed → Type 0
-Written c = AreAll (after_net c.args.stamp c.args.net.now (versions_of c.args.replaced.now c.args.conn.now)) (c.args.place + length c.args.net.now) c.loop-change.replaced
+Written c = AreAll (after_net c.args.stamp c.args.net.now (versions_of c.args.replaced.now (latest_in c.args.conn.now))) (c.args.place + length c.args.net.now) c.loop-change.replaced
 
 committed : (c : After-commit) → IsCall (Written c) c.args.conn.now c.commit.new.self.0 c.commit.result
 committed c =
@@ -77,7 +77,7 @@ committed c =
     let apart = i.written.all.apart in
     let written : Written c (latest_in mid) = record {
       apart = apart;
-      written = record { versions_are = ap (λ cs. after_net c.args.stamp cs (versions_of replaced mid)) (sym past) ∙ i.rest; below = rw (← last) i.written.all.written.below };
+      written = record { versions_are = ap (λ cs. after_net c.args.stamp cs (versions_of replaced (latest_in mid))) (sym past) ∙ i.rest; below = rw (← last) i.written.all.written.below };
     } in
     let each : AreStorable (latest_in mid) = all_front (λ x. IsStorable x.version) (latest_in mid) replaced apart.each in
     ended_call (Written c) c.args.conn.now mid end c.commit.result c.requires.kept i.written.table each written i.base c.commit.ensures.ended (c.commit.ensures.ok (memory_is_clean end)) (c.commit.ensures.err (memory_is_clean end)) i.inside
@@ -111,7 +111,7 @@ pub loop-change-preserved : goal.loop-change-preserved
 loop-change-preserved c =
     let i = c.loop-change.invariant in
     let step = c.in_ok-one.ensures.step in
-    let mid = versions_of c.loop-change.replaced c.loop-change.tx.conn.now in
+    let mid = versions_of c.loop-change.replaced (latest_in c.loop-change.tx.conn.now) in
     let net = c.args.net.now in
     let at = c.loop-change.change-index in
     let change = c.change-item.result in

@@ -6,7 +6,7 @@ from django.core.management.base import BaseCommand, CommandError
 
 from txcache.__main__ import lines_of
 from txcache.django._cache import the_cache
-from txcache.errors import NotInstalled
+from txcache.errors import NotInstalled, TxCacheError
 
 
 class Command(BaseCommand):
@@ -16,7 +16,7 @@ class Command(BaseCommand):
     def add_arguments(self, parser: Any) -> None:
         parser.add_argument("act", choices=["install", "check", "purge", "uninstall"])
         parser.add_argument("--database", help="another alias of the same database, as that of the tables' owner")
-        parser.add_argument("--reader", metavar="ROLE", help="install: the role of the services, which alone reads the notes")
+        parser.add_argument("--reader", metavar="ROLE", help="the role of the services: install has it alone read the notes, and check looks whether it may")
 
     def handle(self, *_: Any, **words: Any) -> None:
         store = the_cache().store
@@ -25,3 +25,5 @@ class Command(BaseCommand):
             self.stdout.write("\n".join(lines_of(words["act"], store, words["reader"])))
         except NotInstalled as error:
             raise CommandError("\n".join(error.lines)) from error
+        except TxCacheError as error:
+            raise CommandError(str(error)) from error

@@ -1,15 +1,16 @@
-use Rattle.std.proofs.Common.{◌∙◌}
-use Rattle.txc_rows.proofs.StoreLemmas.{still_store, still_known, same_view}
+use Rattle.std.proofs.Common.{sym, ap, subst, ◌∙◌}
+use Rattle.txc_rows.specs.Placed.{left_from, AreAmong}
+use Rattle.txc_rows.specs.Kept.{versions_of, IsStore}
 use Rattle.txc_rows.proofs.store.Store.current.Goals as goal
 
 pub invariant_of-self : goal.invariant_of-self
 invariant_of-self c =
     let was = c.self.inside in
-    let same = c.find_current.ensures.same in (
-      still_store was.replaced was.conn c.find_current.new.conn same.trees was.next_place c.self.invariant.0 same.kept,
-      still_known was.replaced was.conn c.find_current.new.conn same.trees c.find_current.new.known.items c.find_current.ensures.known,
+    let same = sym c.find_current.ensures.same in (
+      subst (IsStore was.next_place was.replaced) same c.self.invariant.0,
+      subst (λ xs. AreAmong xs c.find_current.new.known.items) same c.find_current.ensures.known,
       c.find_current.ensures.few_known c.self.invariant.2,
     )
 
 pub returns-clause-same : goal.returns-clause-same
-returns-clause-same c = same_view c.self.inside.replaced c.self.inside.conn c.find_current.new.conn c.find_current.ensures.same.trees c.self.inside.kept_from ∙ c.self.view_is
+returns-clause-same c = ap (λ xs. left_from c.self.inside.kept_from (versions_of c.self.inside.replaced xs)) c.find_current.ensures.same ∙ c.self.view_is
