@@ -23,7 +23,7 @@ ROOT = Path(__file__).resolve().parent.parent
 # Documents in which what is found is only counted, until they are rewritten.
 COUNTED_DOCUMENTS = ("CHANGELOG.md",)
 # Whether what is found in comments and error texts of crates is a fault; else it is counted.
-ARE_CRATES_CHECKED = False
+ARE_CRATES_CHECKED = True
 # How much of a sentence is shown that begins badly.
 MOST_SHOWN = 60
 

@@ -37,7 +37,7 @@ impl Arguments {
         }
     }
 
-    /// Returns how many of the site's events are stored.
+    /// Returns for how many events the site's history has room, or `None` if it stores none.
     pub fn events(&self) -> Option<usize> {
         if self.is_unstored { None } else { Some(2048) }
     }

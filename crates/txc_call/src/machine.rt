@@ -267,8 +267,9 @@ impl CallMachine {
         self.need = Some(need_after(&self.frames, need, reply));
     }
 
-    /// Takes the step of the function that the call needs, before any other function continues. If the limits
-    /// of the application do not allow the step, or an allocation fails, every frame is closed.
+    /// Takes the step of the function that the call needs, before any other function continues. The call must
+    /// need one. If the limits of the application do not allow the step, or an allocation fails, every frame is
+    /// closed.
     pub fn ran(&mut self, limits: Limits, alloc: Global, ask: Ask) -> Result<(), CallError>
         requires value { limits.value ≤ MOST_VALUE_LEN }
         requires asks { limits.asks ≤ MOST_ASKS }

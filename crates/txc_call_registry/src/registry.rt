@@ -134,7 +134,8 @@ impl<A: App, C: Cacheable> Registry<A, C> {
         object.resume(answer)
     }
 
-    /// Ends the function's activation, if it has one.
+    /// Ends the function's run, if it has begun one: the function is idle then. A function that is not in the
+    /// registry has none.
     pub fn release(&mut self, f: u8)
         ensures { self.new ≡ with_activity self.old f idle }
     {

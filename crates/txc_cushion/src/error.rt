@@ -45,9 +45,9 @@ impl From<AllocError> for AddError {
     }
 }
 
-/// The first returned stamp without a pin, or whose pin has no user left. Nothing has changed.
+/// The first returned stamp that has no pin, or whose pin has no user left. Nothing has changed.
 #[derive(Clone, Copy, Debug, PartialEq, Eq, Error)]
-#[error("the pin of stamp {stamp} has no user left")]
+#[error("stamp {stamp} has no pin with a user left")]
 pub struct UnknownPin {
     pub stamp: Stamp,
 }

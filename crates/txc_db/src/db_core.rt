@@ -108,8 +108,8 @@ impl DbCore {
         DbCore::new_over(alloc, RowStore::Sql, capacity)
     }
 
-    /// Makes an empty database over that store of rows, with an event log for `capacity` events. Fails only if
-    /// memory cannot be allocated or the store fails.
+    /// Makes an empty database whose rows are in a new store of that kind, with an event log for `capacity`
+    /// events. Fails only if memory cannot be allocated or the store fails.
     pub fn new_over(alloc: Global, rows: RowStore, capacity: usize) -> Result<DbCore, DbError>
         requires least { 1 ≤ capacity }
         requires most { capacity ≤ MAX_CAPACITY }
@@ -180,8 +180,9 @@ impl DbCore {
         })
     }
 
-    /// Sets how many versions may match a query, instead of [`txc_rows::MAX_MATCHING`]. They are counted, and
-    /// only those that the answer needs are copied.
+    /// Sets how many versions may match a query, from [`txc_rows::MAX_MATCHING`] (the default) to
+    /// [`txc_rows::MOST_MATCHING`]. A query that more versions match fails. They are counted, and only those that
+    /// the answer needs are copied.
     pub fn allow(&mut self, most: usize)
         requires least { MAX_MATCHING ≤ most }
         requires most { most ≤ MOST_MATCHING }

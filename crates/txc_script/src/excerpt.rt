@@ -55,7 +55,7 @@ impl Excerpt {
         }
     }
 
-    /// Returns the first bytes of the text.
+    /// Returns the first bytes of the text, up to [`MAX_SHOWN`]: all of them if it is not longer.
     pub fn start(&self) -> &[u8]
         ensures { result.now ≡ self.now.start }
     {

@@ -28,7 +28,7 @@ pub struct WordsLeft<'a> {
     count: usize,
 }
 
-/// Returns how many words a text has.
+/// Returns how many words a text has: one more than its blanks. So the empty text has one, which is empty.
 pub fn count_words(text: &[u8]) -> usize
     ensures count { result ≡ length (words_of text.now) }
     ensures some { 0 < result }

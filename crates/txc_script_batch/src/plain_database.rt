@@ -84,7 +84,7 @@ impl PlainDatabase {
     }
 
     /// Pins the present, adds the pin, which no transaction uses, and returns its stamp. Fails if the database
-    /// cannot pin, or the pincushion cannot add the pin; then its hold is removed.
+    /// cannot pin, or the pincushion cannot add the pin: then the hold is removed, and the pin's event stays.
     pub fn pin(&mut self, alloc: Global, now: u64) -> Result<Stamp, PrepareError>
         ensures { MakesPin now self.old result self.new }
     {

@@ -54,7 +54,7 @@ impl<A: App> NodeRemains<A> {
         &self.seen
     }
 
-    /// Returns how many entries are left.
+    /// Returns how many entries of the node that ended [`next`](NodeRemains::next) has not returned yet.
     pub fn len(&self) -> usize
         ensures { result ≡ length self.now.entries }
     {

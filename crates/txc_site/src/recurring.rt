@@ -21,7 +21,7 @@ pub struct Generation<T> {
     pub stats: SiteStats,
 }
 
-/// Visitors that may want another generation of the site.
+/// Workers that are asked after each generation of a site whether another one is to follow.
 pub trait Recurring<A: App, D: Definition>: Worker<A, D> {
     ghost use Rattle.std.specs.Prelude.{Bool};
     ghost use Rattle.txc_site.specs.declared.recurring.Generation.{Generation};
@@ -29,8 +29,7 @@ pub trait Recurring<A: App, D: Definition>: Worker<A, D> {
     // The relation of the answer to a generation.
     ghost continues: { Self → Generation Self.Output → Bool → Type 0 };
 
-    /// Returns `true` if the visitors want another generation after this one. The generation is dropped
-    /// afterwards.
+    /// Returns `true` if another generation shall follow this one, which is dropped afterwards.
     fn should_continue(&self, generation: &Generation<Self::Output>) -> bool
         ensures { continues self.now generation.now result };
 }

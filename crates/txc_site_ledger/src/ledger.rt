@@ -30,7 +30,7 @@ pub struct Ledger<J: Naming> {
     cushion: Pincushion<J>,
 }
 
-/// The source of a ledger's committers. Only a new ledger makes one.
+/// The one source of the [`CommitCounter`]s of a ledger. Only a new ledger makes it.
 #[derive(Drop)]
 pub struct CommitCounters<J: Naming> {
     of: PhantomData<J>,

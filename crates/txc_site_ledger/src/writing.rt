@@ -69,7 +69,8 @@ fn run_once<A: App, D: Definition, J: Naming, C: Change<A, D>, R: Wait>(
     }
 }
 
-/// Runs the change, and again after a conflict, at most `tries` times. Each run is an update of the committer.
+/// Runs the change, and again after a conflict, at most `tries` times. The committer counts each run as an
+/// update, also one that ends with a conflict. Fails with all conflicts if each try ended with one.
 pub fn write_change<A: App, D: Definition, J: Naming, C: Change<A, D>, R: Wait>(
     rt: &R,
     alloc: Global,

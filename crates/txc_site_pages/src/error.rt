@@ -2,7 +2,8 @@
 use thiserror::Error;
 use txc_site_ledger::RunError;
 
-/// Errors of reading a page. Nothing was changed, and the client can continue.
+/// Errors of reading a page: memory to begin is missing, or the page failed. Nothing was changed, and the client
+/// can continue.
 #[derive(Clone, Copy, Debug, PartialEq, Eq, Error)]
 pub enum ReadError {
     /// Memory to begin the transaction cannot be allocated. The page was not run.

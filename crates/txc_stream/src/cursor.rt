@@ -71,7 +71,7 @@ impl<T, N, P: Publishes<T, N>> Cursor<T, N, P> {
         self.found
     }
 
-    /// Returns the note of the records that it has seen.
+    /// Returns the note of the newest record that it has found. It must have found one that it has not taken.
     pub fn note(&self) -> &N
         requires { self.now.found ≡ true }
         ensures { P.notes self.now.list result.now }

@@ -107,7 +107,7 @@ impl<T> EventRow<T> {
         Ok(EventRow { cells })
     }
 
-    /// Returns how many records the row has room for.
+    /// Returns how many records the row has room for in all, at least one.
     pub fn capacity(&self) -> usize
         ensures cells { result ≡ length self.now }
         ensures least { 1 ≤ result }

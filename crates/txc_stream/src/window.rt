@@ -11,7 +11,7 @@ use std::alloc::{AllocError, Global};
 use std::collections::VecDeque;
 use std::marker::{Model, PhantomData};
 
-/// The notes that belong to a record.
+/// Which notes belong to a record: a relation for contracts. An implementation has no function.
 pub trait Witnessed<T, N> {
     ghost notes: { T → N → Type 0 };
 }

@@ -3,7 +3,7 @@ ghost use Rattle.txc_tags.specs.Tags.{wildcard, id_tag, group_tag, are_all, is_w
 
 use std::marker::Model;
 
-/// The greatest number of a table.
+/// The greatest number of a table. The first one is 0.
 pub const LAST_TABLE: u8 = 15;
 
 /// Number of a table, 0 to [`LAST_TABLE`]; a contract sees the number.

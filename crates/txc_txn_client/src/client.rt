@@ -181,8 +181,9 @@ impl<'a, A: App, C: Cacheable, J: Naming> Client<'a, A, C, J> {
         }
     }
 
-    /// Begins a transaction in a session: it reads nothing older than the session's floor. The session must
-    /// belong to this database.
+    /// Begins a transaction in a session at time `now`: it reads nothing older than the session's floor, nor
+    /// older than `staleness`. Both are in milliseconds. The session must belong to this database. If memory
+    /// cannot be allocated, it returns the client.
     pub fn begin_in(
         self,
         rt: &impl Wait,

@@ -82,7 +82,8 @@ impl<J: Naming> Model for RetiredPins<J> {
     ghost view = { λ r. record { stamps = r.stamps.items; taken = r.taken } };
 }
 
-/// A pin that was retired, and is still held. It is linear: [`Ledger::unpin_retired`] must consume it.
+/// A pin that was retired: no transaction gets it any more. The database still keeps its snapshot, until
+/// [`Ledger::unpin_retired`] consumes it. It is linear, so that must happen.
 pub struct RetiredPin<J: Naming> {
     stamp: Stamp,
     of: PhantomData<J>,

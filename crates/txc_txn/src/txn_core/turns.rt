@@ -34,7 +34,8 @@ impl TxnCore {
     ghost use Rattle.txc_txn.specs.TxnCore.{CoreHolds, Explains, IsAnswered, IsCore, IsIdle, IsRightPortReply};
     ghost use Rattle.txc_txn.specs.RunningTxn.{txn_value, HasBegunCall, HasGoneOn};
 
-    /// Begins a call. If there is no member, it pins the present first.
+    /// Begins a call. It asks a port for something, or ends at once with an error. If there is no member, it
+    /// asks to pin the present first.
     pub fn start<A: App, C: Cacheable>(
         &mut self,
         alloc: Global,
