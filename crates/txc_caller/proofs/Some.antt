@@ -10,11 +10,6 @@ for_this P x h y is = let same : x ≡ y = cc in subst P same h
 pub for_none : {X : Type 0} (P : X → Type 0) → ForSome None P
 for_none P y is = absurd (cc is)
 
--- the one that there is
-pub some_of : {X : Type 0} (o : Option X) → IsSome o → (x : X) × (o ≡ Some x)
-some_of None there = absurd (cc there)
-some_of (Some x) there = (x, refl)
-
 pub none_of : {X : Type 0} (o : Option X) → ¬ (IsSome o) → o ≡ None
 none_of None never = refl
 none_of (Some x) never = absurd (never refl)

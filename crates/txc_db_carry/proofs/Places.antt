@@ -10,6 +10,7 @@ use Rattle.txc_rows.specs.Values.{IsRow}
 use Rattle.txc_rows.specs.States.{RowValue, State, IsState, row_before, matches, answer}
 use Rattle.txc_rows.specs.Versions.{row_of, suits, is_visible, visible_rows, IsVersion}
 use Rattle.txc_rows.specs.VersionsAndStates.{VersionsSay}
+use Rattle.txc_rows.proofs.Rising.{lt_trans}
 use Rattle.txc_tags.specs.declared.tag.TheConstants.{LAST_TABLE}
 use Rattle.txc_tags.specs.declared.text.number.TheConstants.{LAST_NUMBER}
 use Rattle.txc_db.specs.DatabaseValue.{DatabaseValue, IsSound, newest, newest_state}
@@ -17,9 +18,6 @@ use Rattle.txc_db.specs.Calls.{matching_of}
 use Rattle.txc_db_carry.specs.Carry.{stands_before}
 
 -- ---- one row
-
-down : (a b c d t f : ℕ) → nat_lt a c || ((a == c) && nat_lt b d) ≡ true → nat_lt c t || ((c == t) && nat_lt d f) ≡ true → nat_lt a t || ((a == t) && nat_lt b f) ≡ true
-down a b c d t f h k = grind (arith, nat_tests)
 
 still : (a b t f l : ℕ) → f ≤ l → nat_lt a t || ((a == t) && nat_lt b f) ≡ true → nat_lt a t || ((a == t) && nat_lt b l) ≡ true
 still a b t f l le h = grind (arith, nat_tests)
@@ -86,10 +84,6 @@ none_at_all : {X : Type 0} (p : X → Bool) (xs : List X) → ((x : X) → p x �
 none_at_all p [] h = refl
 none_at_all p (x ∷ xs) h = rw (h x) (none_at_all p xs h)
 
-pub length_filter : {X : Type 0} (p : X → Bool) (xs : List X) → length (filter p xs) ≤ length xs
-length_filter p [] = omega arith
-length_filter p (x ∷ xs) = let rest = length_filter p xs in elim (p x) as (λ b. length (cond b (x ∷ filter p xs) (filter p xs)) ≤ length (x ∷ xs)) [ true ↦ omega (arith, rest) | false ↦ omega (arith, rest) ]
-
 -- ---- the rows before a place and those of the range behind it
 
 module _ (p q n : RowValue → Bool) (low : (r : RowValue) → p r ≡ true → n r ≡ true) (off : (r : RowValue) → p r ≡ true → q r ≡ false)
@@ -125,7 +119,7 @@ range_joined t f l le s h =
     (λ r within. still r.table r.id t f (l + 1) (omega (arith, le)) within)
     (λ r within. off_range r.table r.id t f l within)
     (λ r beyond. both_ways _ _ (in_range r.table r.id t f l beyond) (from_range r.table r.id t f l))
-    (λ r x before within. down r.table r.id x.table x.id t f before within)
+    (λ r x before within. lt_trans r.table r.id x.table x.id t f before within)
     s h
 
 pub before_more : (t f l : ℕ) → f ≤ l → (r : RowValue) → stands_before t f r ≡ true → stands_before t l r ≡ true

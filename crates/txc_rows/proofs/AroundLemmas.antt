@@ -40,7 +40,7 @@ same_death x d e p q = let two : ◌≡◌ {A = Option ℕ} (Some d) (Some e) = 
 
 -- ---- two versions
 
-two_of : (vs : List Versioned) (v w : Versioned) → Pairwise Follows vs → IsIn v vs → IsIn w vs → (v ≡ w) ⊎ (Follows v w ⊎ Follows w v)
+pub two_of : (vs : List Versioned) (v w : Versioned) → Pairwise Follows vs → IsIn v vs → IsIn w vs → (v ≡ w) ⊎ (Follows v w ⊎ Follows w v)
 two_of [] v w p a b = absurd a
 two_of (u ∷ us) v w p (inl a) (inl b) = inl (a ∙ sym b)
 two_of (u ∷ us) v w p (inl a) (inr b) = inr (inl (subst (λ x. Follows x w) (sym a) (all_in (Follows u) us w p.0 b)))
