@@ -1,11 +1,10 @@
 -- What holds over reaches, put together and weakened.
-use Rattle.std.proofs.Common.{◌≡◌, ℕ, Bool, false, ◌||◌, ◌&&◌, max, min, List, [], ◌∷◌, ◌++◌, append-nil, Option, Some, None, true, refl, sym, subst, ◌∙◌, arith}
+use Rattle.std.proofs.Common.{◌≡◌, ℕ, ◌&&◌, max, min, List, [], ◌∷◌, ◌++◌, append-nil, Option, Some, None, true, refl, sym, subst, ◌∙◌, arith}
 use Rattle.std.proofs.lemmas.Bool.{le-leb}
 use Rattle.txc_stamp.specs.Interval.{Interval, Holds, meet_of}
 use Rattle.txc_tags.specs.declared.tag.Tag.{Tag}
-use Rattle.txc_tags.specs.Tags.{covers, has_tag, same_tag, with_tags}
-use Rattle.txc_tags.proofs.Offered.{both_true, and_true, any_found, all_keep, all_covered}
-use Rattle.txc_tags.proofs.TagOrder.{same_is}
+use Rattle.txc_tags.specs.Tags.{covers, with_tags}
+use Rattle.txc_tags.proofs.Offered.{both_true, and_true, all_keep}
 use Rattle.txc_tags.proofs.Covering.{all_cover}
 use Rattle.txc_rows.specs.declared.query.Query.{Query}
 use Rattle.txc_rows.specs.States.{State}
@@ -15,16 +14,6 @@ use Rattle.txc_app.specs.Claims.{covers_all, HoldsOver}
 use Rattle.txc_call.specs.Reaches.{InReach, ReachesMeet, meet}
 
 -- ---- cover
-
--- a set covers what it has of the tags that were added to it
-has_covered : (more set : List Tag) (tag : Tag) → has_tag more tag ≡ true → covers (with_tags more set) tag ≡ true
-has_covered more set tag e =
-    let found = any_found (same_tag tag) more e in
-    subst (λ (x : Tag). covers (with_tags more set) x ≡ true) (sym (same_is tag found.0 found.2)) (all_covered more found.0 set found.1)
-
-or_itself : (b : Bool) → b || b ≡ true → b ≡ true
-or_itself true e = refl
-or_itself false e = e
 
 -- a joined set covers what the old one covered
 all_one : (tags more : List Tag) (qs : List Query) → covers_all tags qs ≡ true → covers_all (with_tags more tags) qs ≡ true

@@ -16,12 +16,12 @@ use Rattle.txc_call.specs.Needs.{NeedFits}
 use Rattle.txc_call.specs.CallSteps.{with_resumed, FunctionExists, NeedsFunction}
 use Rattle.txc_txn_ports.specs.declared.turn.Turn.TheVariants.{Ask as Asks, Ended}
 use Rattle.txc_txn_ports.specs.Turns.{PortTurn, IsAsk}
+use Rattle.txc_txn_ports.proofs.Options.{for_none}
 use Rattle.txc_txn.specs.declared.pinning.Pinning.{Pinning}
 use Rattle.txc_txn.specs.ByHand.{FirstExists, HandTurn, IsHandTurn, IsUnended, ObjectsLeft}
 use Rattle.txc_txn.specs.TxnCore.{CoreValue, either_call, first_call, open_call, running_call, IsCore, IsIdle, IsTurn}
 use Rattle.txc_caller.specs.CallerTxn.{IsRestingCore}
 use Rattle.txc_caller.specs.ComputedFunctions.{top_call, HaveAllFunctions}
-use Rattle.txc_caller.proofs.Some.{for_none}
 
 -- ---- there is an object for each function
 

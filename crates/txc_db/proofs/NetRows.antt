@@ -6,6 +6,7 @@ use Rattle.txc_tags.specs.declared.tag.Tag.{Tag}
 use Rattle.txc_tags.specs.Tags.{with_tags, set_of}
 use Rattle.txc_tags.proofs.Lists.{in_either}
 use Rattle.txc_tags.proofs.Sixteen.{with_tags_append}
+use Rattle.txc_tags.proofs.All.{all_in}
 use Rattle.txc_rows.specs.declared.query.Change.{Change}
 use Rattle.txc_rows.specs.declared.query.Query.TheVariants.{ById}
 use Rattle.txc_rows.specs.States.{RowValue, State, IsState, row_before, is_at, answer, after_changes}
@@ -20,11 +21,6 @@ use Rattle.txc_db.specs.NetGrowth.{found_rows, IsNetWith}
 
 -- ---- lists
 
-all_in : {X : Type 0} (P : X → Type 0) (x : X) (xs : List X) → AllByRecursion P xs → IsIn x xs → P x
-all_in P x [] a h = absurd h
-all_in P x (y ∷ ys) a (inl same) = subst P (sym same) a.0
-all_in P x (y ∷ ys) a (inr later) = all_in P x ys a.1 later
-
 all_of : {X : Type 0} (P : X → Type 0) (xs : List X) → ((x : X) → IsIn x xs → P x) → AllByRecursion P xs
 all_of P [] each = tt
 all_of P (y ∷ ys) each = (each y (inl refl), all_of P ys (λ x h. each x (inr h)))
@@ -38,7 +34,7 @@ append_state : (xs ys : State) → IsState xs → IsState ys → ((x y : RowValu
 append_state [] ys hx hy before = hy
 append_state (x ∷ xs) ys hx hy before = (
   all_of (λ (s : RowValue). row_before x s ≡ true) (xs ++ ys) (λ z h. elim (in_either z xs ys h) [
-    | inl inside ↦ all_in (λ (s : RowValue). row_before x s ≡ true) z xs hx.0 inside
+    | inl inside ↦ all_in (λ (s : RowValue). row_before x s ≡ true) xs z hx.0 inside
     | inr later ↦ before x z (inl refl) later
   ]),
   append_state xs ys hx.1 hy (λ a b h k. before a b (inr h) k),
@@ -81,7 +77,7 @@ found_state (c ∷ cs) s rise h =
     append_state (answer (ById (change_table c) (change_id c)) s) (found_rows s cs) (filter_state (is_at (change_table c) (change_id c)) s h) (found_state cs s rise.1 h)
     (λ x y hx hy.
     let it = found_from cs s y hy in
-    keyed c it.change x y (all_in (λ (d : Change). key_before c d ≡ true) it.change cs rise.0 it.one) (from_filter (is_at (change_table c) (change_id c)) x s hx).1 it.at)
+    keyed c it.change x y (all_in (λ (d : Change). key_before c d ≡ true) cs it.change rise.0 it.one) (from_filter (is_at (change_table c) (change_id c)) x s hx).1 it.at)
 
 pub found_are_rows_at : (net : List Change) (s : State) → KeysAscend net → IsState s → found_rows s net ≡ rows_at net s
 found_are_rows_at net s rise h = same_rows (found_rows s net) (rows_at net s) (found_state net s rise h) (filter_state (λ r. list_any (λ c. is_at (change_table c) (change_id c) r) net) s h) to from

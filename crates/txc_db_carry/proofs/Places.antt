@@ -1,5 +1,5 @@
 -- Rows by place: those before a place, those of a range of ids, and those before the place behind it.
-use Rattle.std.proofs.Common.{◌≡◌, inl, inr, ℕ, ◌+◌, ◌≤◌, List, [], ◌∷◌, ◌++◌, filter, map, length, Bool, true, false, true≢false, cond, ◌&&◌, ◌||◌, ◌==◌, nat_lt, nat_le, refl, sym, ap, subst, ◌∙◌, arith}
+use Rattle.std.proofs.Common.{◌≡◌, inl, inr, ℕ, ◌+◌, ◌≤◌, List, [], ◌∷◌, ◌++◌, filter, map, length, Bool, true, false, true≢false, ◌&&◌, ◌||◌, ◌==◌, nat_lt, nat_le, refl, sym, ap, subst, ◌∙◌, arith}
 use Rattle.std.proofs.lemmas.Bool.Decides.{nat_tests}
 use Rattle.std.specs.List.{AllByRecursion}
 use Rattle.txc_tags.proofs.Lists.{bool_cases, both_ways, filter_alike, IsIn}
@@ -13,6 +13,7 @@ use Rattle.txc_rows.specs.VersionsAndStates.{VersionsSay}
 use Rattle.txc_rows.proofs.Rising.{lt_trans}
 use Rattle.txc_tags.specs.declared.tag.TheConstants.{LAST_TABLE}
 use Rattle.txc_tags.specs.declared.text.number.TheConstants.{LAST_NUMBER}
+use Rattle.txc_tags.proofs.All.{all-filter, all_weaker}
 use Rattle.txc_db.specs.DatabaseValue.{DatabaseValue, IsSound, newest, newest_state}
 use Rattle.txc_db.specs.Calls.{matching_of}
 use Rattle.txc_db_carry.specs.Carry.{stands_before}
@@ -62,15 +63,6 @@ none_first : (a b : ℕ) → nat_lt a 0 || ((a == 0) && nat_lt b 0) ≡ false
 none_first a b = grind (arith, nat_tests)
 
 -- ---- lists
-
-pub all_in : {X : Type 0} (P : X → Type 0) (x : X) (xs : List X) → AllByRecursion P xs → IsIn x xs → P x
-all_in P x [] a h = absurd h
-all_in P x (y ∷ ys) a (inl same) = subst P (sym same) a.0
-all_in P x (y ∷ ys) a (inr later) = all_in P x ys a.1 later
-
-pub all_to : {X : Type 0} (P Q : X → Type 0) (xs : List X) → ((x : X) → P x → Q x) → AllByRecursion P xs → AllByRecursion Q xs
-all_to P Q [] to a = tt
-all_to P Q (x ∷ xs) to a = (to x a.0, all_to P Q xs to a.1)
 
 pub filter_none : {X : Type 0} (p : X → Bool) (xs : List X) → AllByRecursion (λ x. p x ≡ false) xs → filter p xs ≡ []
 filter_none p [] h = refl
@@ -138,16 +130,12 @@ visible_in r [] h a = absurd h
 visible_in r (v ∷ vs) (inl same) a = subst IsRow (sym same) a.0.row
 visible_in r (v ∷ vs) (inr later) a = visible_in r vs later a.1
 
-all_left : {X : Type 0} (P : X → Type 0) (p : X → Bool) (xs : List X) → AllByRecursion P xs → AllByRecursion P (filter p xs)
-all_left P p [] a = tt
-all_left P p (x ∷ xs) a = let rest = all_left P p xs a.1 in elim (p x) as (λ b. AllByRecursion P (cond b (x ∷ filter p xs) (filter p xs))) [ true ↦ (a.0, rest) | false ↦ rest ]
-
 -- the rows of the newest state are rows
 pub state_row : (d : DatabaseValue) → IsSound d → (r : RowValue) → IsIn r (newest_state d) → IsRow r
 state_row d sound r h =
     let says : VersionsSay (newest d) d.versions (newest_state d) = sound.kept.says.kept (newest d) sound.kept.kept (omega arith) in
     let seen : IsIn r (visible_rows (newest d) d.versions) = is_in (visible_rows (newest d) d.versions) r (says.each r (contains_it (newest_state d) r h)) in
-    visible_in r (filter (is_visible (newest d)) d.versions) seen (all_left IsVersion (is_visible (newest d)) d.versions sound.kept.versions.each)
+    visible_in r (filter (is_visible (newest d)) d.versions) seen (all-filter IsVersion (is_visible (newest d)) d.versions sound.kept.versions.each)
 
 pub table_done : (d : DatabaseValue) → IsSound d → (t : ℕ) → filter (stands_before t (LAST_NUMBER + 1)) (newest_state d) ≡ filter (stands_before (t + 1) 0) (newest_state d)
 table_done d sound t =
@@ -165,7 +153,7 @@ all_before d sound = every_in (stands_before (LAST_TABLE + 1) 0) (newest_state d
 
 -- none of the versions before a place is of a row from there on
 pub none_matching : (t f i : ℕ) → f ≤ i → (vs : List Versioned) → AllByRecursion (λ v. stands_before t f v.row ≡ true) vs → filter (suits (ById t i)) vs ≡ []
-none_matching t f i le vs a = filter_none (suits (ById t i)) vs (all_to (λ v. stands_before t f v.row ≡ true) (λ v. suits (ById t i) v ≡ false) vs (λ v h. off_id v.row.table v.row.id t f i le h) a)
+none_matching t f i le vs a = filter_none (suits (ById t i)) vs (all_weaker (λ v. stands_before t f v.row ≡ true) (λ v. suits (ById t i) v ≡ false) (λ v h. off_id v.row.table v.row.id t f i le h) vs a)
 
 pub range_in : (t f l : ℕ) (r : RowValue) → matches (Range t f l) r ≡ true → (r.table ≡ t) × (f ≤ r.id)
 range_in t f l r h = (range_table r.table r.id t f l h, range_first r.table r.id t f l h)

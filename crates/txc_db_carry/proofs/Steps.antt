@@ -9,6 +9,7 @@ use Rattle.txc_tags.specs.declared.tag.TheConstants.{LAST_TABLE}
 use Rattle.txc_tags.specs.declared.text.number.TheConstants.{LAST_NUMBER}
 use Rattle.txc_tags.proofs.Lists.{bool_cases, IsIn}
 use Rattle.txc_tags.proofs.Merging.{match_nothing}
+use Rattle.txc_tags.proofs.All.{all_weaker}
 use Rattle.txc_rows.proofs.Offered.{is_in, filter_state, puts_append}
 use Rattle.txc_rows.specs.declared.query.Query.{Query}
 use Rattle.txc_rows.specs.declared.query.Query.TheVariants.{ById, Range}
@@ -29,7 +30,7 @@ use Rattle.txc_db.specs.Calls.{matching_of, row_query, IsCommitRefused, IsQueryR
 use Rattle.txc_db.proofs.Histories.{is_state}
 use Rattle.txc_db_carry.specs.Carry.{stands_before, HasCarried, IsReadRefusal, IsPutRefusal}
 use Rattle.txc_db_carry.specs.Rooms.{IsHistoryFor, room_for}
-use Rattle.txc_db_carry.proofs.Places.{all_to, range_joined, before_more, range_before, none_before, table_done, version_done, all_before, none_matching, range_in, one_matching}
+use Rattle.txc_db_carry.proofs.Places.{range_joined, before_more, range_before, none_before, table_done, version_done, all_before, none_matching, range_in, one_matching}
 use Rattle.txc_db_carry.proofs.Puts.{after_either, commit_state, Puts, all_net, all_written, all_puts}
 
 -- ---- histories
@@ -69,7 +70,7 @@ table_carried old new events t sound h = record {
   horizon = h.horizon;
   holds = h.holds;
   rows = h.rows ∙ table_done old sound t;
-  versions = all_to (λ v. stands_before t (LAST_NUMBER + 1) v.row ≡ true) (λ v. stands_before (t + 1) 0 v.row ≡ true) new.versions (λ v k. version_done t (LAST_NUMBER + 1) v.row k) h.versions;
+  versions = all_weaker (λ v. stands_before t (LAST_NUMBER + 1) v.row ≡ true) (λ v. stands_before (t + 1) 0 v.row ≡ true) (λ v k. version_done t (LAST_NUMBER + 1) v.row k) new.versions h.versions;
   few = h.few;
 }
 
@@ -105,7 +106,7 @@ module _ (old new : DatabaseValue) (events : Name) (t f l : ℕ) (rows : List Ro
   new_state transition = commit_state new (map Put rows) changed transition ∙ puts_append rows (newest_state new) (subst IsState (sym whole_state) (filter_state (stands_before t (l + 1)) (newest_state old) (is_state changed old.history (newest old))))
 
   moved : AllByRecursion (λ v. stands_before t (l + 1) v.row ≡ true) new.versions
-  moved = all_to (λ v. stands_before t f v.row ≡ true) (λ v. stands_before t (l + 1) v.row ≡ true) new.versions (λ v k. before_more t f (l + 1) (omega (arith, le)) v.row k) h.versions
+  moved = all_weaker (λ v. stands_before t f v.row ≡ true) (λ v. stands_before t (l + 1) v.row ≡ true) (λ v k. before_more t f (l + 1) (omega (arith, le)) v.row k) new.versions h.versions
 
   put_versions : AllByRecursion (λ v. stands_before t (l + 1) v.row ≡ true) (after_commit new (map Put rows)).versions
   put_versions =

@@ -10,13 +10,13 @@ use Rattle.txc_tags.specs.declared.tag.Tag.{Tag}
 use Rattle.txc_tags.specs.Tags.{same_tag, has_tag}
 use Rattle.txc_tags.specs.Keys.{Call}
 use Rattle.txc_tags.proofs.TagOrder.{same_itself}
+use Rattle.txc_tags.proofs.All.{all-filter}
 use Rattle.txc_node.specs.declared.entry.Entry.{Entry}
 use Rattle.txc_node.specs.declared.place.Place.{Place}
 use Rattle.txc_node.specs.declared.stored.Stored.{Stored}
 use Rattle.txc_node.specs.Places.{place_of, equal_places, equal_places_is}
 use Rattle.txc_node.specs.Entries.{same_place, others, AreApart}
 use Rattle.txc_node.specs.IndexedEntries.{entry_at, stored_of, entries_under, lists, IsListed, IndexesTags, KeepsListed, with_first}
-use Rattle.txc_node.proofs.Apart.{filter_keeps}
 use Rattle.txc_node.proofs.Fronts.{all_at, found_self, holds_under}
 
 has_more : (u : Tag) (us ts : List Tag) → AllByRecursion (λ t. has_tag us t ≡ true) ts → AllByRecursion (λ t. has_tag (u ∷ us) t ≡ true) ts
@@ -59,13 +59,13 @@ module _ {S : Type 0} (tables new : List (HashMap Rows (List Place) S)) where
 
   -- a new entry that was listed goes first
   pub first_listed : (e : Entry) (q : Place) (es : List Entry) → q ≡ place_of e → KeepsListed (λ t q. Unit {0}) tables new → IsListed new q (stored_of e) → IndexesTags tables es → IndexesTags new (with_first e es)
-  first_listed e q es at keeps own h = (subst (λ (p : Place). IsListed new p (stored_of e)) at own, filter_keeps (λ o. IsListed new (place_of o) (stored_of o)) (λ o. not (same_place o e)) es (listed_more es keeps h))
+  first_listed e q es at keeps own h = (subst (λ (p : Place). IsListed new p (stored_of e)) at own, all-filter (λ o. IsListed new (place_of o) (stored_of o)) (λ o. not (same_place o e)) es (listed_more es keeps h))
 
 module _ {S : Type 0} (tables : List (HashMap Rows (List Place) S)) where
   pub brought_listed : (key : Call) (es : List Entry) (at : ℕ) (e : Entry) → slice_get (entries_under key es) at ≡ Some e → IndexesTags tables es → IndexesTags tables (e ∷ others e es)
   brought_listed key es at e is h =
       let P : Entry → Type 0 = λ o. IsListed tables (place_of o) (stored_of o) in
-      (holds_under P key es at e h is, filter_keeps P (λ o. not (same_place o e)) es h)
+      (holds_under P key es at e h is, all-filter P (λ o. not (same_place o e)) es h)
 
 -- what is taken off at the place of one for which there is no room is none of those that stay
 module _ {S : Type 0} (tables new : List (HashMap Rows (List Place) S)) where

@@ -1,5 +1,5 @@
 -- What a node shows of its entries stays true.
-use Rattle.std.proofs.Common.{◌≡◌, ◌⊎◌, inl, inr, ℕ, zero, suc, ◌+◌, ◌-◌, ◌≤◌, List, [], ◌∷◌, length, drop, Bool, true, false, true≢false, cond, nat_lt, max, ◌&&◌, refl, sym, ap, subst, ◌∙◌, arith}
+use Rattle.std.proofs.Common.{◌≡◌, inl, inr, ℕ, zero, suc, ◌+◌, ◌-◌, ◌≤◌, List, [], ◌∷◌, length, drop, Bool, true, false, true≢false, cond, nat_lt, max, ◌&&◌, refl, sym, ap, subst, ◌∙◌, arith}
 use Rattle.std.proofs.lemmas.Bool.Decides.{nat_tests}
 use Rattle.std.proofs.lemmas.Bool.{ltb-true, ltb-false, cases_lt}
 use Rattle.txc_stamp.specs.Interval.{Interval, closed_at}
@@ -32,9 +32,6 @@ shown_closed : (p : ℕ) (e : Entry) → e.reach.still ≡ false → shown_entry
 shown_closed p e is =
     by_parts e (cond e.reach.still (max e.reach.known p) e.reach.known + 1 - 1) e.reach.known e.reach.still e.reach.still (rw is (omega arith)) refl
 
-upto : (t n : ℕ) → t ≤ suc n → (t ≤ n) ⊎ (t ≡ suc n)
-upto t n h = grind arith
-
 -- a still valid entry that the next event does not match is true up to that event
 true_with_event : EventLeaves → (next : Next) (L : History) (e : Entry) (k : ℕ) → IsTrueIn next L (ending e k true) → e.reach.lo ≤ k
     → suc k ≤ length L → sets_match (tags_at L (suc k)) e.tags ≡ false
@@ -42,15 +39,16 @@ true_with_event : EventLeaves → (next : Next) (L : History) (e : Entry) (k : �
 true_with_event law next L e k h some short apart =
     let same : evaluation next e.key (state_at L k) ≡ evaluation next e.key (state_at L (suc k)) =
     law next e.key L k e.tags (h.covered refl k (some, omega arith)) apart in
+    let last : (t : ℕ) → k < t → t ≤ suc k → t ≡ suc k = λ t past upto. omega arith in
     record {
       within = short;
-      holds = λ t inside. elim (upto t k inside.1) [
-        | inl before ↦ h.holds t (inside.0, before)
-        | inr here ↦ rw here (ap (λ (o : Evaluation). o.value) (sym same) ∙ h.holds k (some, omega arith))
+      holds = λ t inside. elim (cases_lt k t) [
+        | inl past ↦ rw (last t past inside.1) (ap (λ (o : Evaluation). o.value) (sym same) ∙ h.holds k (some, omega arith))
+        | inr before ↦ h.holds t (inside.0, before)
       ];
-      covered = λ s t inside. elim (upto t k inside.1) [
-        | inl before ↦ h.covered s t (inside.0, before)
-        | inr here ↦ rw here (ap (λ (o : Evaluation). covers_all e.tags o.met) (sym same) ∙ h.covered s k (some, omega arith))
+      covered = λ s t inside. elim (cases_lt k t) [
+        | inl past ↦ rw (last t past inside.1) (ap (λ (o : Evaluation). covers_all e.tags o.met) (sym same) ∙ h.covered s k (some, omega arith))
+        | inr before ↦ h.covered s t (inside.0, before)
       ];
     }
 

@@ -13,7 +13,7 @@ use Rattle.txc_txn_ports.specs.declared.bounds.Bounds.{Bounds}
 use Rattle.txc_txn_ports.specs.declared.error.TxnError.{TxnError}
 use Rattle.txc_txn_ports.specs.declared.recorded.Recorded.{Recorded}
 use Rattle.txc_txn_ports.specs.Exchanges.{Exchange}
-use Rattle.txc_txn.specs.TxnCore.{CoreValue, Explains, KeepsSettings}
+use Rattle.txc_txn.specs.TxnCore.{Explains, KeepsSettings}
 use Rattle.txc_txn.specs.Sessions.{IsAtLeast}
 use Rattle.txc_txn_client.specs.Laws.{asks, HasAdded}
 use Rattle.txc_txn_client.specs.Ports.{HaveGrown}
@@ -21,12 +21,10 @@ use Rattle.txc_txn_client.specs.Run.{HasRun}
 use Rattle.txc_txn_client.specs.RoTxn.{ClientValue, RoTxnValue, client_of}
 pub use Rattle.txc_txn_client.proofs.Grown.{have_grown_self, have_grown_then}
 use Rattle.txc_txn_client.proofs.Standing.{each_call_is_recorded_once, added_none, added_both}
+use Rattle.txc_txn_client.proofs.Turns.{settings_then}
 use Rattle.txc_site_pages.specs.declared.error.ReadError.TheVariants as reads
 use Rattle.txc_site_ledger.specs.declared.run_error.RunError.{RunError}
 use Rattle.txc_site_pages.specs.Pages.{answer_of, answers_of, exchanges_of, last_bounds, HasCalled, HaveCalled, IsLeftByRefused, IsPageRun, MadeCall, PageStepsAreItsCalls}
-
-settings_stay : (a b c : CoreValue) → KeepsSettings a b → KeepsSettings b c → KeepsSettings a c
-settings_stay a b c h k = record { bounds = k.bounds ∙ h.bounds; renew_after = k.renew_after ∙ h.renew_after; nodes = k.nodes ∙ h.nodes }
 
 module _ (next : Next) (row : Name) (histories : ℕ → Name) where
   module _ (client : ClientValue) (bounds : Bounds) where
@@ -68,7 +66,7 @@ module _ (next : Next) (row : Name) (histories : ℕ → Name) where
         none = before.none;
         made = (old, before.made, run, grown);
         answered = one_answered_more before.calls result before.answered is same;
-        settings = settings_stay before.first.txn.core old.txn.core new.txn.core before.settings settings;
+        settings = settings_then before.first.txn.core old.txn.core new.txn.core before.settings settings;
         functions = functions ∙ before.functions;
       }
 

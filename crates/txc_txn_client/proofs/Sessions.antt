@@ -1,5 +1,5 @@
 -- What a caller reads in a session.
-use Rattle.std.proofs.Common.{◌≡◌, inl, inr, ℕ, zero, suc, ◌≤◌, List, [], ◌∷◌, ◌++◌, length, take, Option, Some, None, refl, ap, subst, arith}
+use Rattle.std.proofs.Common.{◌≡◌, inl, inr, ℕ, zero, suc, ◌≤◌, List, [], ◌∷◌, length, take, Option, Some, None, refl, ap, subst, arith}
 use Rattle.std.specs.Prelude.{option_map, IfSome}
 use Rattle.std.specs.List.{AllByRecursion}
 use mathlib.Core.List.{IsPrefix}
@@ -8,6 +8,7 @@ use Rattle.txc_db.specs.History.{History}
 use Rattle.txc_db.proofs.Histories.{pin_within}
 use Rattle.txc_cushion.specs.declared.pin.Pin.{Pin}
 use Rattle.txc_app.specs.Eval.{Next}
+use Rattle.txc_tags.proofs.All.{all_front}
 use Rattle.txc_txn_ports.specs.declared.bounds.Bounds.{Bounds}
 use Rattle.txc_txn_ports.specs.declared.recorded.Recorded.{Recorded}
 use Rattle.txc_txn.specs.TxnCore.{Explains}
@@ -58,15 +59,11 @@ module _ (next : Next) (L M : History) (n : ℕ) (on : IsPrefix M L) (within : n
     none_newer deeds of.1 (λ stamp among. low stamp (inr among)),
   )
 
-first_of : (P : SessionEvent → Type 0) (before after : List SessionEvent) → AllByRecursion P (before ++ after) → AllByRecursion P before
-first_of P [] after all = tt
-first_of P (deed ∷ deeds) after all = (all.0, first_of P deeds after all.1)
-
 pub sessions_are_monotonic : SessionsAreMonotonic
 sessions_are_monotonic next L deeds of session before after bounds receipt is own = go receipt.pin refl
   where
     among : AllByRecursion (IsOfDatabase next L) before
-    among = first_of (IsOfDatabase next L) before (began bounds ∷ after) (subst (AllByRecursion (IsOfDatabase next L)) is of)
+    among = all_front (IsOfDatabase next L) before (began bounds ∷ after) (subst (AllByRecursion (IsOfDatabase next L)) is of)
 
     go : (pin : Option Pin) → receipt.pin ≡ pin → IfSome (read_by receipt) (λ read. AllByRecursion (IsNoNewer read) before)
     go None none = rw none tt

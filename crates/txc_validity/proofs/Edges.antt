@@ -1,6 +1,5 @@
 -- Where a version that matches begins or ends, the answer changes.
-use Rattle.std.proofs.Common.{◌≡◌, ◌≢◌, inl, inr, ℕ, ◌+◌, ◌<◌, ◌≤◌, List, [], ◌∷◌, filter, true, ◌&&◌, Option, None, Some, refl, sym, ap, subst, ◌∙◌, arith}
-use Rattle.std.specs.List.{AllByRecursion}
+use Rattle.std.proofs.Common.{◌≡◌, ◌≢◌, inl, inr, ℕ, ◌+◌, ◌<◌, ◌≤◌, List, filter, true, ◌&&◌, Option, None, Some, refl, sym, ap, subst, ◌∙◌, arith}
 use Rattle.std.proofs.lemmas.Bool.{leb-true, le-leb, ltb-true, lt-ltb}
 use Rattle.txc_rows.specs.declared.version.Versioned.{Versioned}
 use Rattle.txc_rows.specs.declared.query.Query.{Query}
@@ -9,6 +8,7 @@ use Rattle.txc_rows.specs.Versions.{row_of, suits, is_visible, lives_at, shown_a
 use Rattle.txc_rows.proofs.Offered.{IsIn, both_true, and_true, in_filter, from_filter}
 use Rattle.txc_rows.proofs.AroundLemmas.{two_of}
 use Rattle.txc_rows.proofs.Members.{in_map, from_map}
+use Rattle.txc_tags.proofs.All.{all_in}
 use Rattle.txc_validity.specs.Changes.{Turns}
 
 -- a version that matches begins or ends at the stamp
@@ -42,11 +42,6 @@ shown_has q s vs w there seen fits =
     in_map row_of w (filter (λ v. is_visible s v && suits q v) vs) (in_filter (λ v. is_visible s v && suits q v) w vs there (and_true _ _ seen fits))
 
 -- ---- two versions of a row
-
-all_in : {X : Type 0} (P : X → Type 0) (xs : List X) (x : X) → AllByRecursion P xs → IsIn x xs → P x
-all_in P [] x all h = absurd h
-all_in P (y ∷ ys) x all (inl e) = subst P (sym e) all.0
-all_in P (y ∷ ys) x all (inr h) = all_in P ys x all.1 h
 
 -- where a version ends no other shows its row
 ends_apart : (q : Query) (vs : List Versioned) (s : ℕ) (v : Versioned) → AreVersions vs → IsIn v vs → suits q v ≡ true → v.died ≡ Some (s + 1) → shown_at q s vs ≢ shown_at q (s + 1) vs
