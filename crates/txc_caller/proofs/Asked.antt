@@ -37,7 +37,7 @@ use Rattle.txc_txn_ports.specs.declared.request.PortRequest.{PortRequest}
 use Rattle.txc_txn_ports.specs.declared.request.PortRequest.TheVariants as requests
 use Rattle.txc_txn_ports.specs.declared.reply.PortReply.{PortReply}
 use Rattle.txc_txn_ports.specs.declared.reply.PortReply.TheVariants as replies
-use Rattle.txc_caller.proofs.Some.{for_none, for_this}
+use Rattle.txc_txn_ports.proofs.Options.{for_none, for_this}
 use Rattle.txc_caller.proofs.Letting.{grown_by, grown_same}
 use Rattle.txc_caller.specs.Budgets.{node_bytes, HasComeWithin, HasMadeRoomFor, IsInBudget}
 use Rattle.txc_caller.specs.Ports.{CallerPorts, AreCallerPorts, CallerAddTransition, CallerFindTransition, HasAskedPorts, HasGrownDatabase, CallerInsertTransition, KeepsNode, CallerLookupTransition, CallerPinTransition, CallerSweepTransition, CallerTrimTransition, CallerUnpinTransition}
@@ -174,11 +174,6 @@ pub looked_up : (key : Call) (lo hi : ℕ) (old new : NodeValue) (r : Result (Op
 looked_up key lo hi old new (Ok (Some hit)) after answer front left refused = (after, sym answer, front)
 looked_up key lo hi old new (Ok None) after answer front left refused = inl (after, sym answer)
 looked_up key lo hi old new (Err e) after answer front left refused = inr (e, refused, left)
-
--- what holds of what it found holds of what the node has
-pub found_so : (P : Answered HitValue → Type 0) (r : Result (Option (Answered HitValue)) NodeError) → IfOk r (λ o. IfSome o P) → IfSome (result_unwrap_or r None) P
-found_so P (Ok o) h = h
-found_so P (Err e) h = tt
 
 -- what a hit shows is of the row
 pub hit_row : (old new : NodeValue) (key : Call) (lo hi : ℕ) (hit : Option (Answered HitValue)) (row : Name) → old.seen.events ≡ row → CallerLookupTransition key lo hi old new hit

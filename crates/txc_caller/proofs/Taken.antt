@@ -1,6 +1,5 @@
 -- A node that takes events.
-use Rattle.std.proofs.Common.{◌≡◌, ◌∙◌, Bool, true, false, List, [], ◌∷◌, ◌++◌, append-nil, inl, inr, refl, ap, subst, sym}
-use Rattle.std.specs.List.{AllByRecursion}
+use Rattle.std.proofs.Common.{◌≡◌, ◌∙◌, Bool, true, false, List, [], ◌++◌, append-nil, inl, inr, refl, ap, subst, sym}
 use Rattle.std.proofs.lemmas.List.{append_assoc}
 use Rattle.txc_db.specs.DatabaseValue.{DatabaseValue}
 use Rattle.txc_db.specs.FrontsAndFeeds.{FrontValue}
@@ -16,10 +15,7 @@ use Rattle.txc_caller.specs.Budgets.{node_bytes}
 use Rattle.txc_caller.specs.Ports.{GoesOnByEvents, HasNoEventFor, IsOfEvent, MayHaveTaken, StaysBehind}
 use Rattle.txc_caller.proofs.Budgets.{event_bytes, left_bytes}
 use Rattle.txc_caller.proofs.Asked.{changes_so, node_left, node_same, step_breaks}
-
-both : (rs ss : List Record) → AllByRecursion (λ r. IsOfEvent r.op) rs → AllByRecursion (λ r. IsOfEvent r.op) ss → AllByRecursion (λ r. IsOfEvent r.op) (rs ++ ss)
-both [] ss hr hs = hs
-both (r ∷ rs) ss hr hs = (hr.0, both rs ss hr.1 hs)
+use Rattle.txc_tags.proofs.All.{all-append}
 
 -- none was taken
 pub none_taken : (old new : NodeValue) → new ≡ old → GoesOnByEvents old new
@@ -42,7 +38,7 @@ taken_then old mid new a b = record {
   bytes = λ none. b.bytes (λ has. none (subst HasRow (ap (λ (n : NodeValue). n.name) a.keeps.same) has)) ∙ a.bytes none;
   more = a.more ++ b.more;
   records = b.records ∙ (ap (λ (rs : List Record). rs ++ b.more) a.records ∙ append_assoc old.records a.more b.more);
-  events = both a.more b.more a.events b.events;
+  events = all-append (λ r. IsOfEvent r.op) a.more b.more a.events b.events;
 }
 
 -- the next was taken, or there was none

@@ -74,10 +74,10 @@ left_both (x ∷ a) b one two h k = (
   left_both a b h.1 two h.4 k,
 )
 
-added_none : (p : PassValue) → HasAdded [] p p
+pub added_none : (p : PassValue) → HasAdded [] p p
 added_none p = record { same = refl; made = []; left = refl; own = sym (append-nil (own_records p)) }
 
-added_both : (p q r : PassValue) (a b : List Exchange) → HasAdded a p q → HasAdded b q r → HasAdded (a ++ b) p r
+pub added_both : (p q r : PassValue) (a b : List Exchange) → HasAdded a p q → HasAdded b q r → HasAdded (a ++ b) p r
 added_both p q r a b one two = record {
   same = two.same ∙ one.same;
   made = one.made ++ two.made;

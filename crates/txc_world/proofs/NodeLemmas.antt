@@ -151,11 +151,6 @@ looked_up pass key lo hi old new (Ok (Some hit)) after answer left refused = (af
 looked_up pass key lo hi old new (Ok None) after answer left refused = inl (after, sym answer)
 looked_up pass key lo hi old new (Err e) after answer left refused = inr (e, refused, left)
 
--- what holds of what it found holds of what the node has
-pub found_so : (P : Answered HitValue → Type 0) (r : Result (Option (Answered HitValue)) NodeError) → IfOk r (λ o. IfSome o P) → IfSome (result_unwrap_or r None) P
-found_so P (Ok o) h = h
-found_so P (Err e) h = tt
-
 -- which a whole node alone shows, so that it is part of the whole
 pub found_part : (whole : FrontValue) (node : NodeValue) (lo hi : ℕ) (r : Result (Option (Answered HitValue)) NodeError) → (node.broken ≡ false → IsPartOf whole node.seen)
     → IfOk r (λ o. IfSome o (λ f. f.front ≡ node.seen)) → OnOk r (CanRecord node × (lo ≤ hi)) → IfSome (result_unwrap_or r None) (λ f. IsPartOf whole f.front)
