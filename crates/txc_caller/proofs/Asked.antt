@@ -73,18 +73,12 @@ MayBreak n e = Unit {0}
 pub step_breaks : (n : NodeValue) (e : NodeError) → IsStepRefused n e → MayBreak n e
 step_breaks n errors.Broken (inl was) = inl was
 step_breaks n errors.Broken (inr may) = inr may.in_row
-step_breaks n errors.EmptyRange refused = tt
-step_breaks n errors.HistoryFull refused = tt
-step_breaks n errors.PassesFull refused = tt
-step_breaks n errors.Memory refused = tt
+step_breaks n e refused = tt
 
 pub lookup_breaks : (n : NodeValue) (lo hi : ℕ) (e : NodeError) → IsLookupRefused n lo hi e → MayBreak n e
 lookup_breaks n lo hi errors.Broken (inl was) = inl was
 lookup_breaks n lo hi errors.Broken (inr may) = inr may.0.in_row
-lookup_breaks n lo hi errors.EmptyRange refused = tt
-lookup_breaks n lo hi errors.HistoryFull refused = tt
-lookup_breaks n lo hi errors.PassesFull refused = tt
-lookup_breaks n lo hi errors.Memory refused = tt
+lookup_breaks n lo hi e refused = tt
 
 pub node_left : (old new : NodeValue) (e : NodeError) → MayBreak old e → IsNodeLeft old new e → KeepsNode old new
 node_left old new errors.Broken may (inl same) = node_same old new same.0
@@ -97,10 +91,7 @@ node_left old new errors.Broken may (inr broke) = record {
     breaks : (old.broken ≡ true) ⊎ HasRow old.name → ¬ (HasRow old.name) → new.broken ≡ old.broken
     breaks (inl was) none = ap (λ (n : NodeValue). n.broken) broke.is ∙ sym was
     breaks (inr stored) none = absurd (none stored)
-node_left old new errors.EmptyRange may same = node_same old new same
-node_left old new errors.HistoryFull may same = node_same old new same
-node_left old new errors.PassesFull may same = node_same old new same
-node_left old new errors.Memory may same = node_same old new same
+node_left old new e may same = node_same old new same
 
 -- a sweep, by what it returns
 pub swept : (old new : NodeValue) (horizon : ℕ) (r : Result ℕ NodeError) → OnOk r (new ≡ after_call old 0 (Sweep horizon)) → IfOk r (λ count. count ≡ swept_count old.cache horizon)

@@ -79,10 +79,7 @@ refused_so old new e refused left = record {
     records_left : (old new : NodeValue) (e : NodeError) → IsNodeLeft old new e → new.records ≡ old.records
     records_left old new errors.Broken (inl same) = ap (λ (n : NodeValue). n.records) same.0
     records_left old new errors.Broken (inr broke) = ap (λ (n : NodeValue). n.records) broke.is
-    records_left old new errors.EmptyRange same = ap (λ (n : NodeValue). n.records) same
-    records_left old new errors.HistoryFull same = ap (λ (n : NodeValue). n.records) same
-    records_left old new errors.PassesFull same = ap (λ (n : NodeValue). n.records) same
-    records_left old new errors.Memory same = ap (λ (n : NodeValue). n.records) same
+    records_left old new e same = ap (λ (n : NodeValue). n.records) same
 
 -- they were taken, whichever is said
 pub said_so : (d : DatabaseValue) (old new : NodeValue) (has_all : Bool) → GoesOnByEvents old new → (has_all ≡ true → HasNoEventFor d new) → (has_all ≡ false → StaysBehind d old new) → MayHaveTaken d old new
