@@ -38,7 +38,7 @@ impl BothBids {
     }
 }
 
-/// The page that reads both in one transaction.
+/// The page that reads the highest bid on an item, and the item's page, in one transaction.
 #[derive(Drop)]
 pub struct ItemPage {
     pub item: u32,

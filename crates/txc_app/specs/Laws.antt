@@ -52,7 +52,7 @@ RightAnswersGiveTheValue = (next : Next) (k : Call) (s : State) (given : List An
 
 -- ---- claims
 
--- a true entry stays true in a longer history
+-- a true entry stays true in every history that begins with the one in which it is true
 abbrev pub TrueInLonger : Type 0
 TrueInLonger = (next : Next) (L M : History) (e : Entry)
     → IsPrefix L M → IsTrueIn next L e → IsTrueIn next M e

@@ -33,7 +33,7 @@ pub fn found_rows_give_true_entries()
     ensures entry { DoneAfterIsTrue }
 {}
 
-/// A true entry stays true in a longer history.
+/// A true entry stays true in every history that begins with the one in which it is true.
 pub fn true_entries_stay()
     ensures { TrueInLonger }
 {

@@ -35,7 +35,7 @@ pub const COMPUTE: u32 = 12;
 pub const ANSWERED: u32 = 13;
 /// No transaction of that number is open for this call, or no function is being computed.
 pub const NOT_OPEN: u32 = 14;
-/// A call is open.
+/// A commit while a call is open. The transaction stays as it was.
 pub const MID_CALL: u32 = 15;
 /// The call or the operation failed, or no transaction can begin.
 pub const REFUSED: u32 = 16;

@@ -27,6 +27,6 @@ abbrev pub IsRefusalWith : FrontValue → DbError → CommitError → Type 0
 IsRefusalWith front (Conflict first) e = e ≡ commits.Conflict (record { answer = first; front = front })
 IsRefusalWith front refusal e = e ≡ commits.Database refusal
 
--- each event was posted, or preceded the poster, and the last posted front shows the whole history
+-- each event was posted, or preceded the publisher, and the last posted front shows the whole history
 abbrev pub AreAllPosted : History → PosterValue EventValue → Type 0
 AreAllPosted L p = (p.from + length p.posted ≡ length L) × (fold (λ before last. last) (Some L) p.posted ≡ Some L)

@@ -123,8 +123,8 @@ impl DbCore {
         DbCore::of(alloc, rows, History::stored(row)?)
     }
 
-    /// Makes an empty database over SQLite, whose ghost history the pen writes. It has room for 4,294,967,294
-    /// events. Fails only if memory cannot be allocated, or with an error of SQLite.
+    /// Makes an empty database over SQLite. Its history is ghost, and `pen` appends to it. It has room for
+    /// 4,294,967,294 events. Fails only if memory cannot be allocated, or with an error of SQLite.
     pub fn unstored(alloc: Global, pen: AppendToken<Event>) -> Result<DbCore, DbError>
         requires { pen.list ≡ [] }
         ensures history { IfOk result (λ d. (d.history ≡ []) × (d.events ≡ unstored pen.number)) }
@@ -136,8 +136,8 @@ impl DbCore {
         DbCore::unstored_over(alloc, RowStore::Sql, pen)
     }
 
-    /// Makes an empty database over this kind of store, whose ghost history the pen writes. It has room for
-    /// 4,294,967,294 events. Fails only if memory cannot be allocated, or the store fails.
+    /// Makes an empty database over this kind of store. Its history is ghost, and `pen` appends to it. It has
+    /// room for 4,294,967,294 events. Fails only if memory cannot be allocated, or the store fails.
     pub fn unstored_over(
         alloc: Global,
         rows: RowStore,

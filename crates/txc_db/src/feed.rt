@@ -60,7 +60,7 @@ impl<J: Naming> Feed<J> {
         }
     }
 
-    // Takes over what its walker finds.
+    // Takes over the events that its cursor finds.
     fn walk(&mut self, rt: &impl Wait)
         ensures taken { self.new.taken ≡ self.old.taken }
         ensures longer { IsPrefix self.old.history self.new.history }
@@ -84,7 +84,8 @@ impl<J: Naming> Feed<J> {
         self.taken < self.front.len()
     }
 
-    /// Takes over the events that only a front shows. Does not allocate.
+    /// Lets the feed show what the front shows beyond it. No event counts as taken by this. The front must be
+    /// of the same history. Does not allocate.
     pub fn longer(&mut self, other: &HistoryFront)
         requires { other.now.events ≡ J.database_history }
         ensures taken { self.new.taken ≡ self.old.taken }
@@ -126,7 +127,7 @@ impl<J: Naming> Feed<J> {
         self.posted_tags()
     }
 
-    // Returns the tags of that event, if its walker is at it and they were posted.
+    // Returns the tags of the event after the taken ones, if the cursor is at it and they were posted.
     fn posted_tags(&self) -> Option<&TagSet>
         requires { self.now.taken < length self.now.history }
         ensures { IfSome result (λ tags. tags.now ≡ tags_at self.now.history (self.now.taken + 1)) }

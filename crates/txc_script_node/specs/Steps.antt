@@ -18,7 +18,7 @@ use Rattle.txc_script_node.specs.Lines.{Spells, node_forms}
 abbrev pub IsFor : Option ℕ → Op → Reply HitValue → Type 0
 IsFor function op reply = is_refusal reply ≡ false → function ≡ function_of op
 
--- a relation for the taking of replies: the taker before, the step, its reply, and the taker after
+-- a relation for the taking of replies: the sink before, the step, its reply, and the sink after
 abbrev pub Taking : Type 0 → Type 1
 Taking T = T → Op → Reply HitValue → T → Type 0
 

@@ -14,7 +14,7 @@ use txc_tags::LAST_FUNCTION;
 
 /// Takes the replies to steps: a text, to which they are written, or a report, which counts them.
 pub trait ReplySink {
-    // The relation of the taker after a reply to the one before.
+    // The relation of the sink after a reply to the sink before it.
     ghost takes: { Self → Op → Reply HitValue → Self → Type 0 };
 
     // The text written so far.

@@ -1,4 +1,4 @@
-//! Steps of the node, whose replies a taker gets.
+//! Steps of the node, whose replies a sink takes.
 ghost use Rattle.std.specs.Prelude.{◌≡◌, ◌≤◌, false, IfNone, IfSome};
 ghost use Rattle.txc_node.specs.Hit.{seen};
 ghost use Rattle.txc_node.specs.declared.op.Op.{Op};
@@ -17,7 +17,7 @@ use txc_script::{CommandFault, Excerpt, LineError, WordsLeft, all_words, read_ro
 use txc_stamp::Stamp;
 use txc_tags::{Key, TagSet};
 
-/// Makes the insertion of the words after its name, and gives its reply to the taker. Otherwise returns `None`,
+/// Makes the insertion of the words after its name, and gives its reply to the sink. Otherwise returns `None`,
 /// and sets `why`.
 #[inline(never)]
 fn make_insertion<T: ReplySink, F: Drop>(
@@ -49,7 +49,7 @@ fn make_insertion<T: ReplySink, F: Drop>(
     }
 }
 
-/// Gives the reply to a lookup that is a hit to the taker. It is a function of its own, so that a miss makes no
+/// Gives the reply to a lookup that is a hit to the sink. It is a function of its own, so that a miss makes no
 /// room for it.
 #[inline(never)]
 fn take_hit<T: ReplySink, F: Drop>(
@@ -69,7 +69,7 @@ fn take_hit<T: ReplySink, F: Drop>(
     taker.take(alloc, function, &Reply::Hit(hit), why)
 }
 
-/// Makes the lookup of the words after its name, and gives its reply to the taker.
+/// Makes the lookup of the words after its name, and gives its reply to the sink.
 #[inline(never)]
 fn make_lookup<T: ReplySink, F: Drop>(
     alloc: Global,
@@ -96,7 +96,7 @@ fn make_lookup<T: ReplySink, F: Drop>(
     }
 }
 
-/// Makes the event of the words after its name, and gives its reply to the taker.
+/// Makes the event of the words after its name, and gives its reply to the sink.
 #[inline(never)]
 fn make_event<T: ReplySink, F: Drop>(
     alloc: Global,
@@ -124,7 +124,7 @@ fn make_event<T: ReplySink, F: Drop>(
     }
 }
 
-/// Makes the sweep of the words after its name, and gives its reply to the taker.
+/// Makes the sweep of the words after its name, and gives its reply to the sink.
 #[inline(never)]
 fn make_sweep<T: ReplySink, F: Drop>(
     alloc: Global,
@@ -153,8 +153,8 @@ fn leave_unknown<F: Drop>(name: &[u8], why: &mut LineError<F>)
     *why = LineError::Wrong(CommandFault::Unknown(Excerpt::new(name)));
 }
 
-/// Makes the step that a line names, and gives its reply to the taker. Otherwise returns `None`, and sets
-/// `why`. Each kind of step is a function of its own, so that a line makes room only for its own words.
+/// Makes the step that a line names, and gives its reply to the sink. Otherwise returns `None`, and sets `why`.
+/// Each kind of step is a function of its own, so that a line makes room only for its own words.
 pub fn make_step<T: ReplySink, F: Drop>(
     alloc: Global,
     node: &mut NodeCore,

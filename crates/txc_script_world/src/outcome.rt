@@ -27,7 +27,8 @@ pub fn is_added(reply: &Reply) -> bool
     }
 }
 
-/// Returns the end of a call, or that there is none, or `None` if the call continues.
+/// Returns the result of a call that has ended; any other reply, such as an error, as it is; or `None` if the
+/// call continues.
 pub fn ending_of(reply: Reply) -> Option<Printed>
     ensures { result ≡ ending_of reply }
 {

@@ -5,7 +5,7 @@ use Rattle.txc_stream.specs.declared.append_token.AppendToken.{AppendToken}
 use Rattle.txc_node.specs.declared.record.Record.{Record}
 use Rattle.txc_shared.specs.Nodes.{NodeFrontValue}
 
--- one that is stored has no pen, and the pen of another has written all of it
+-- a stored history has no append token, and the token of a ghost history has written all of it
 abbrev pub HasWriter : Option (AppendToken Record) → NodeFrontValue → Type 0
 HasWriter None h = HasRow h.name
 HasWriter (Some pen) h = (h.name ≡ unstored pen.number) × (h.records ≡ pen.list)

@@ -11,7 +11,7 @@ use std::marker::Model;
 use txc_node::Record;
 use txc_stream::{AppendToken, EventRow, Front};
 
-/// The history of a node: a front that shows the whole of it, and, if it is ghost, its pen.
+/// The history of a node: a front that shows the whole of it, and, if it is ghost, its append token.
 #[derive(Drop)]
 pub(crate) struct History {
     front: NodeFront,

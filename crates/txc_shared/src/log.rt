@@ -133,7 +133,7 @@ impl Log {
         Ok(Box::new(alloc, next)?)
     }
 
-    // Drafts the next record of a pass, for a ghost history. It has no code.
+    // Makes the ghost record of a pass's next step. It has no code.
     fn draft(&self, pass: usize, op: &Op, core: &NodeCore) -> GhostRecord<Record>
         requires { pass < self.now.passes }
         ensures { result.value ≡ next_record pass self.now.records op.now (step_reply core.now op.now) }
@@ -169,7 +169,7 @@ impl Log {
         }
     }
 
-    // Drafts the record of a lookup, for a ghost history. It has no code.
+    // Makes the ghost record of a lookup. It has no code.
     fn draft_lookup(
         &self,
         pass: usize,
@@ -217,7 +217,7 @@ impl Log {
         }
     }
 
-    // Drafts the record of an insertion, for a ghost history. It has no code.
+    // Makes the ghost record of an insertion. It has no code.
     fn draft_insertion(&self, pass: usize, entry: &Entry, core: &NodeCore) -> GhostRecord<Record>
         requires { pass < self.now.passes }
         ensures { result.value
@@ -254,7 +254,7 @@ impl Log {
         }
     }
 
-    // Drafts the record of an event, for a ghost history. It has no code.
+    // Makes the ghost record of an event. It has no code.
     fn draft_event(
         &self,
         pass: usize,

@@ -173,7 +173,7 @@ impl NodeFront {
         }
     }
 
-    /// Appends a record with the pen that has written all records of the front.
+    /// Appends a record with the append token that has written all records of the front.
     pub(crate) fn write(&mut self, pen: &mut AppendToken<Record>, draft: GhostRecord<Record>)
         requires name { self.old.name ≡ unstored pen.old.number }
         requires whole { self.old.records ≡ pen.old.list }

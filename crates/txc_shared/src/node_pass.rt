@@ -122,7 +122,7 @@ impl<J: Naming> NodePass<J> {
         let _len = self.records.len();
     }
 
-    /// Returns a front of the records that it has seen.
+    /// Returns a front of the records that it has seen: the steps of other passes too.
     pub fn records(&self) -> &NodeFront
         ensures name { result.now.name ≡ J.node_histories self.now.settings.number }
         ensures records { result.now.records ≡ self.now.records }

@@ -75,8 +75,8 @@ impl<A: App, J: Naming> SharedNode<A, J> {
         SharedNode::of(rt, alloc, settings, history, database)
     }
 
-    /// Makes an empty node that will take the same events. Its history is ghost, and its pen is that of the
-    /// history of its number. Fails only if memory cannot be allocated.
+    /// Makes an empty node that will take the same events. Its history is ghost, and `pen` is the append token
+    /// of the history of its number. Fails only if memory cannot be allocated.
     pub fn unstored(
         rt: &impl Wait,
         alloc: Global,

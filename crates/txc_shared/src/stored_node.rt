@@ -116,7 +116,7 @@ impl<A: App> StoredNode<A> {
         StoredNode::of(alloc, settings, history, seen, Stamp::ZERO)
     }
 
-    /// Makes an empty node whose ghost records the pen writes. The front shows the database history that it has
+    /// Makes an empty node whose ghost records `pen` appends. The front shows the database history that it has
     /// seen. Fails only if memory cannot be allocated.
     pub fn unstored(
         alloc: Global,

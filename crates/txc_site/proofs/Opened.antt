@@ -42,7 +42,7 @@ module _ (plan : Plan) (numbers : List ℕ) (sound : IsPlan plan) where
   opening_so row makes refuses (opens.Opening error) room h = (sound, record { row = row; room = room; refused = h })
   opening_so row makes refuses opens.Threads room h = absurd h
 
-  -- the visits were
+  -- the workers were
   pub visit_so : {T : Type 0} (makes : RwValue → T → Type 0) (refuses : RunError → Type 0) (error : OpenError)
       → AreWorkersRefused numbers error → IsOpenRefused plan numbers makes refuses error
   visit_so makes refuses (opens.Site error) h = client_so error h

@@ -97,7 +97,8 @@ next_so room numbers gs g generations.Memory h = tt
 
 module _ {T : Type 0} (plan : Plan) (tells : ℕ → Type 0) (count : ℕ) (numbers : List ℕ) (gives : Plan → Name → ℕ → T → Type 0) (goes : Generation T → Bool → Type 0)
     (opened : FrontValue) where
-  -- After each of the generations that came, the visitors wanted another. One that begins with this front comes next.
+  -- After each of the generations that came, the workers wanted another. One that begins with this front comes
+  -- next.
   pub record HaveGoneOn (came : List (Vec T Global)) (begun : FrontValue) : Type 0 where
     pub generations : List (Generation T)
     pub outputs : came ≡ map (λ g. g.outputs) generations
@@ -149,7 +150,7 @@ module _ {T : Type 0} (plan : Plan) (tells : ℕ → Type 0) (count : ℕ) (numb
       });
     }
 
-    -- the visitors want no other
+    -- the workers want no other
     pub enough_so : {U : Type 0} (end : Result U GenerationError) (u : U) → end ≡ Ok u → goes g false → HaveServed plan tells count numbers gives goes opened more end
     enough_so {U} end u is goes_on = record {
       generations = before.generations ++ g ∷ [];

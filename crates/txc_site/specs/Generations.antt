@@ -66,7 +66,7 @@ IsLast before last all = all ≡ before ++ last ∷ []
 
 -- ---- the end
 
--- of a generation: an error of a visit; or its database gave no front of its whole history
+-- of a generation: an error of its workers; or its database gave no front of its whole history
 abbrev pub IsGenerationRefused : List ℕ → GenerationError → Type 0
 IsGenerationRefused numbers (generations.Workers error) = AreWorkersRefused numbers error
 IsGenerationRefused numbers (generations.Ended error) = (error ≡ databases.Memory) ⊎ (error ≡ databases.Broken)
@@ -86,7 +86,7 @@ IsEndRefused {T} room numbers all (generations.Carry error) =
 IsEndRefused room numbers all generations.Memory = Unit {0}
 IsEndRefused room numbers all error = IsGenerationRefused numbers error
 
--- The visitors wanted another generation after each but the last, and none after that; or one after each, and
+-- The workers wanted another generation after each but the last, and none after that; or one after each, and
 -- there was none.
 abbrev pub GenerationsHaveEnded : {T U : Type 0} → (Generation T → Bool → Type 0) → Option ℕ → List ℕ → List (Generation T) → Result U GenerationError → Type 0
 GenerationsHaveEnded {T} goes room numbers all (Ok u) = (before : List (Generation T)) × (last : Generation T) × IsLast before last all

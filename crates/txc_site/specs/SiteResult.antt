@@ -15,7 +15,7 @@ use Rattle.txc_site_workers.specs.Sites.{HaveCome, IsRegistryRefused, IsSiteRefu
 use Rattle.txc_site_ledger.specs.ChangeResult.{IsWritten, IsSiteWriteRefused}
 
 -- Over a database whose history is stored by the plan, the opening was committed in its first run. There are
--- `count` outputs, each of which the thread of its number gives there. The warmth left is of that history.
+-- `count` outputs, each of which the thread of its number gives there. The final state is of that history.
 pub record IsVisited {O T : Type 0} (next : Next) (plan : Plan) (count : ℕ) (makes : RwValue → O → Type 0)
     (gives : Plan → Name → ℕ → T → Type 0) (visited : SiteResult O T) : Type 0 where
   pub row : Name

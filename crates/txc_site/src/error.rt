@@ -5,7 +5,7 @@ use txc_db::DbError;
 use txc_db_carry::CarryError;
 use txc_site_workers::OpenError;
 
-/// Errors that end a site although its visitors asked for another generation.
+/// Errors that end a site although its workers asked for another generation.
 #[derive(Drop, Debug, Error)]
 pub enum GenerationError {
     /// The site of a generation cannot be made, and no thread of it was started; or memory for the threads

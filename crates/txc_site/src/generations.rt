@@ -47,7 +47,7 @@ pub struct GenerationsResult<O, T> {
     pub opening: OpeningCommit<O>,
     /// Result of each thread of each generation, in the order of the generations and of the threads.
     pub generations: Vec<Vec<T>>,
-    /// `Ok` if the visitors asked for no other generation, or the error that ended them.
+    /// `Ok` if the workers asked for no other generation, or the error that ended them.
     pub end: Result<(), GenerationError>,
 }
 
@@ -253,8 +253,8 @@ where
 }
 
 /// Opens a site as [`with_clock`](crate::with_clock) does, and runs the threads. Once all have ended, the
-/// visitors answer whether they want another generation. If they do, the newest state continues in a new
-/// history with the plan's room, with new nodes and `count` threads; and so on.
+/// workers answer whether they want another generation. If they do, the newest state continues in a new history
+/// with the plan's room, with new nodes and `count` threads; and so on.
 ///
 /// Stamps begin at 0 again in each generation. If the plan stores no records, each node begins with the entries
 /// of the one of its number that were still valid at the end; otherwise it begins empty. An error after the
@@ -308,7 +308,7 @@ where
     })
 }
 
-/// Runs one generation after the other, until the visitors want no other or one fails.
+/// Runs one generation after the other, until the workers want no other or one fails.
 #[tactic(auto, using(crate::proofs::Turns::failed_so))]
 fn go_on<A, D, V, C, R>(
     rt: &R,

@@ -9,9 +9,9 @@
 //! It is the only library that a service must list: it passes on the types of the libraries below that pages,
 //! changes and functions use, and the definitions that a clause may name.
 //!
-//! [`with_generations`] does so again and again, as long as the visitors are [`Recurring`]: each [`Generation`]
-//! has a new history, which begins with the state of the one before, and new nodes. If no records are stored,
-//! these begin with the entries that were still valid.
+//! [`with_generations`] does so again and again, for workers that are [`Recurring`], as long as they want
+//! another generation: each [`Generation`] has a new history, which begins with the state of the one before,
+//! and new nodes. If no records are stored, these begin with the entries that were still valid.
 #![tactic(auto)]
 
 mod error;

@@ -20,7 +20,7 @@ abbrev pub refusals_after : ℕ → Ended → ℕ
 refusals_after refusals (Refused error) = counted_again refusals
 refusals_after refusals ended = refusals
 
--- the node took `taken` events, at most `most`, for the station's pass, and ended so; an error is counted
+-- the node took `taken` events, at most `most`, for the keeper's pass, and ended so; an error is counted
 pub record HasTakenEvents (row : Name) (histories : ℕ → Name) (most : ℕ) (old : KeeperNodeValue) (taken : ℕ) (ended : Ended) (new : KeeperNodeValue) : Type 0 where
   pub took : HasTakenMany row histories most old.pass taken ended new.pass
   pub refusals : new.refusals ≡ refusals_after old.refusals ended
@@ -42,8 +42,8 @@ HasTrimmed histories old (Some most) (Some result) new =
 HasTrimmed histories old None None new = new ≡ old
 HasTrimmed histories old budget trimmed new = ⊥
 
--- the effect on a node at its station, which keeps its pass, and the remaining room in the history as its pass
--- has seen it
+-- the effect on a keeper's node, which keeps its pass, and the remaining room in the history as its pass has
+-- seen it
 pub record HasKeptNode (row : Name) (histories : ℕ → Name) (horizon : Option ℕ) (old : KeeperNodeValue) (kept : NodeReport) (new : KeeperNodeValue) : Type 0 where
   pub between : KeeperNodeValue
   pub after : KeeperNodeValue

@@ -11,7 +11,7 @@ use Rattle.txc_site_keeper.specs.KeepReport.{IsKeep, IsNoKeep, KeepTold}
 use Rattle.txc_site_keeper.specs.Refusals.{IsKeeperRefused}
 use Rattle.txc_site_keeper.specs.KeeperNodes.{KeeperNodeValue}
 
--- a keeper's stations, and what it did
+-- a keeper's nodes, and its totals
 pub record OwnKeeperValue : Type 0 where
   pub stations : List KeeperNodeValue
   pub tended : KeeperTotals

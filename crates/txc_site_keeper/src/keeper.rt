@@ -51,7 +51,8 @@ pub struct KeepReport<J: Naming> {
     pub seen: HistoryFront,
     /// The number of events that there is room for after those.
     pub events_left: usize,
-    /// The stamp of the pin of the present, or the error.
+    /// The stamp at which the present was pinned, or the error. `Ok` also if the pincushion did not take the
+    /// pin, whose hold was then removed.
     pub pinned: Result<Stamp, DbError>,
     /// The stamps of the pins that were retired and whose holds were removed, or the error.
     pub retired: Result<Vec<Stamp>, AllocError>,
@@ -142,7 +143,7 @@ fn stations<'a, A: App, J: Naming>(
     Ok(stations)
 }
 
-/// Maintains the node of a station.
+/// Maintains one node of the keeper.
 #[tactic(auto, using(crate::proofs::NodesKept::same_then, crate::proofs::NodesKept::trimmed_at))]
 fn keep_node<'a, A: App, J: Naming>(
     rt: &impl Wait,
@@ -242,7 +243,7 @@ fn keep_all<'a, A: App, J: Naming>(
     (nodes, left)
 }
 
-/// Maintains the nodes of these stations, and their database.
+/// Maintains these nodes and their database.
 fn keep_stations<'a, A: App, J: Naming>(
     rt: &impl Wait,
     alloc: Global,
@@ -310,9 +311,10 @@ impl<'a, A: App, J: Naming> Keeper<'a, A, J> {
     }
 
     /// Runs the maintenance once. It pins the present at the wall-clock time `now`, so that transactions find a
-    /// fresh pin. It removes the pins without users whose time is more than `age` before, and the states below
-    /// the least held stamp. It lets each node take the events, drop the entries that it cannot serve any more,
-    /// and then those over its budget of bytes, if it has one. Times are in milliseconds.
+    /// fresh pin. If the pincushion cannot take it, its hold is removed. It removes the pins without users
+    /// whose time is more than `age` before, and the states below the least held stamp. It lets each node take
+    /// the events, drop the entries that it cannot serve any more, and then those over its budget of bytes, if
+    /// it has one. Times are in milliseconds.
     ///
     /// The error of a part is in the result, and the other parts are still done. It fails as a whole only
     /// before anything was done except a failed pin.

@@ -1,4 +1,4 @@
--- The warmth that a site takes over.
+-- The carried entries that a site takes over.
 use Rattle.std.specs.Prelude.{◌≡◌, IfSome}
 use Rattle.txc_app.specs.declared.app.App as app
 use Rattle.txc_stream.specs.Names.{Name}

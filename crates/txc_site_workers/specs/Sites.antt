@@ -77,7 +77,7 @@ abbrev pub IsLastRefused : List ℕ → (RunError → Type 0) → LastError → 
 IsLastRefused numbers refuses (lasts.Site error) = IsClientRefused numbers error
 IsLastRefused numbers refuses (lasts.Page error) = IsPageRefused refuses error
 
--- of the visit: an error of a client; or there was no memory for the threads
+-- of the workers' run: an error of a client; or there was no memory for the threads
 abbrev pub AreWorkersRefused : List ℕ → OpenError → Type 0
 AreWorkersRefused numbers (opens.Site error) = IsClientRefused numbers error
 AreWorkersRefused numbers (opens.Opening error) = ⊥

@@ -103,7 +103,7 @@ impl Reach {
         }
     }
 
-    /// Returns the end of that span: the first stamp after it.
+    /// Returns the end of [`Reach::span`]: the first stamp after it.
     pub fn end(self, processed: Stamp) -> u32
         ensures answer { result ≡ end_at processed self }
         ensures bound { result ≤ MOST_STAMP + 1 }

@@ -1,4 +1,4 @@
--- What is left on a shelf.
+-- Live segments after some were dropped.
 use Rattle.std.proofs.Common.{◌≡◌, ℕ, zero, suc, ◌<◌, List, [], ◌∷◌, ◌++◌, length, refl, sym, ap, ◌∙◌, append_assoc, arith}
 use Rattle.std.specs.List.{remove}
 use Rattle.txc_stream.specs.Published.{AreLeft}

@@ -1,5 +1,5 @@
--- What seen records and pens own of a history: what was seen can be had twice, two of one history agree, and
--- what was seen begins what the pen has. Assumes `Logic`.
+-- Ownership of a history by observed records and append tokens: an observation can be had twice, two of one
+-- history agree, and an observation begins the list of the append token. Assumes `Logic`.
 use Rattle.std.proofs.Common.{◌≡◌, ℕ, zero, suc, ◌<◌, ◌⊎◌, inl, inr, List, [], ◌∷◌, ◌++◌, length, map, Some, None, slice_get, slice_index, refl, sym, subst, arith}
 use seplogic.Ra.Ura.{Ura}
 use mir.Val.{Val, vstruct, vnil}

@@ -30,8 +30,8 @@ AreNotes notes [] (n ∷ ns) = ⊥
 AreNotes notes (x ∷ xs) [] = ⊥
 AreNotes notes (x ∷ xs) (n ∷ ns) = notes x n × AreNotes notes xs ns
 
--- the front shows all that the pen of this number has written, and there is a note for each record from the
--- first that has one on
+-- the front shows all that the append token of this number has written, and there is a note for each record
+-- from the first that has one on
 pub record IsWindow {T N : Type 0} (notes : T → N → Type 0) (number : ℕ) (written : List T) (front : Shown T)
     (first : ℕ) (kept : List N) : Type 0 where
   pub name : front.name ≡ unstored number

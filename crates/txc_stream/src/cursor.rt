@@ -11,8 +11,8 @@ use crate::segment::{LiveSegments, SEGMENT_LEN, Segment};
 use std::marker::Model;
 use std::sync::{Arc, Mutex, Wait};
 
-/// Cursor through a history: it is shown the note of one record after the other. It holds the segment in which
-/// it is.
+/// Cursor through a history: it finds the note of one record after the other. It holds the segment in which it
+/// is.
 ///
 /// Contracts see the records that it has seen: those that it has taken and, if it has found one more, that one.
 #[derive(Drop)]
@@ -44,7 +44,7 @@ fn is_next(seen: usize, len: usize) -> bool
 }
 
 impl<T, N, P: Publishes<T, N>> Cursor<T, N, P> {
-    /// Makes a walker that has taken the records of the front.
+    /// Makes a cursor that has taken the records of the front.
     pub(crate) fn new(
         shelf: Arc<Mutex<LiveSegments<T, N, P>>>,
         segment: Arc<Segment<T, N, P>>,

@@ -4,7 +4,7 @@ ghost use Rattle.std.specs.Prelude.{◌≡◌};
 
 use std::marker::{Model, PhantomData};
 
-/// The function that makes a ghost record of a value, as the value is when the record is drafted.
+/// The function that makes a ghost record of a value, as the value is when the record is made.
 pub trait GhostRecords<X, T> {
     ghost record_of: { X → T };
 }
@@ -29,7 +29,7 @@ impl<T> Drop for GhostRecord<T> {
 }
 
 impl<T> GhostRecord<T> {
-    /// Drafts the record of the value as it is now. It has no code.
+    /// Makes the ghost record of the value as it is now. It has no code.
     pub fn of<X, M: GhostRecords<X, T>>(about: &X) -> GhostRecord<T>
         ensures { result.value ≡ M.record_of about.now }
     {

@@ -5,11 +5,11 @@
 //! that it has seen so far, and each call that sees one more lengthens it. Of any two fronts of one history,
 //! one is a prefix of the other, whichever threads they come from: callers who compare fronts can rely on that.
 //!
-//! A ghost history uses no memory and has no end. The owner of its [`AppendToken`] lengthens it, and each front of it
-//! shows a prefix of what the pen has written.
+//! A ghost history uses no memory and has no end. The owner of its [`AppendToken`] lengthens it, and each front
+//! of it shows a prefix of what this owner has appended.
 //!
 //! A [`Window`] keeps a note of each of the last records of a ghost history. Notes can also be posted, in
-//! segments of cells: a [`Cursor`] reads them one after the other, and a segment that each walker has passed is
+//! segments of cells: a [`Cursor`] reads them one after the other, and a segment that each cursor has passed is
 //! dropped.
 #![tactic(auto)]
 

@@ -1,11 +1,11 @@
-//! Notes of a history that a publisher posts for the walkers through it.
+//! Notes of a history that a publisher posts for the cursors through it.
 
 ghost use Rattle.std.specs.Prelude.{◌≡◌};
 
 use crate::row::Front;
 use std::marker::{Model, PhantomData};
 
-/// The history whose records are posted, and which notes belong to a prefix of it.
+/// The history whose records are posted, and the relation between a prefix of it and its note.
 pub trait Publishes<T, N> {
     ghost use Rattle.std.specs.Prelude.{List};
     ghost use Rattle.txc_stream.specs.Names.{Name};

@@ -1,4 +1,4 @@
-//! The publisher of a history, for the walkers through it.
+//! The publisher of a history, for the cursors through it.
 
 ghost use Rattle.std.specs.Prelude.{◌≡◌, ◌+◌, ◌<◌, ◌++◌, ◌∷◌, [], true, false, length, Some, IfOk, OnOk, OnErr};
 ghost use Rattle.std.specs.Arc.{arc_value};
@@ -43,8 +43,8 @@ impl<T, N, P: Publishes<T, N>> Model for Publisher<T, N, P> {
 }
 
 impl<T: Drop, N: Drop, P: Publishes<T, N>> Publisher<T, N, P> {
-    /// Makes a poster of the named history with nothing posted. The records after the first `from` are posted
-    /// from now on. Fails only if memory cannot be allocated.
+    /// Makes a publisher of the named history, which has posted nothing. The records after the first `from` are
+    /// posted from now on. Fails only if memory cannot be allocated.
     pub fn new(alloc: Global, from: usize) -> Result<Publisher<T, N, P>, AllocError>
         ensures { IfOk result (λ poster. poster ≡ record { from = from; posted = [] }) }
     {
@@ -72,7 +72,7 @@ impl<T: Drop, N: Drop, P: Publishes<T, N>> Publisher<T, N, P> {
         Ok(NextCell { cell })
     }
 
-    // Continues in a new segment, which it appends to the shelf.
+    // Continues in a new segment, which it appends to the live segments.
     fn begin_segment(&mut self, rt: &impl Wait, alloc: Global) -> Result<(), AllocError>
         ensures begun { OnOk result (self.new ≡ record { from = self.old.from + SEGMENT_LEN; posted = [] }) }
         ensures unchanged { OnErr result (self.new ≡ self.old) }
@@ -87,8 +87,8 @@ impl<T: Drop, N: Drop, P: Publishes<T, N>> Publisher<T, N, P> {
         Ok(())
     }
 
-    /// Posts the front with its note, for the walkers that have not taken its last record. Returns `false`, and
-    /// posts nothing, if its cell was not free: then no walker is shown this record or a later one.
+    /// Posts the front with its note, for the cursors that have not taken its last record. Returns `false`, and
+    /// posts nothing, if its cell was already set: then no cursor finds this record or a later one.
     pub fn post(&mut self, slip: NextCell<T, N, P>, note: N, front: Front<T>) -> bool
         requires history { front.name ≡ P.history }
         requires noted { P.notes front.list note }
@@ -105,7 +105,7 @@ impl<T: Drop, N: Drop, P: Publishes<T, N>> Publisher<T, N, P> {
         }
     }
 
-    /// Makes a walker that has taken the records of the front, and is shown those that are posted from now on.
+    /// Makes a cursor that has taken the records of the front, and finds those that are posted from now on.
     /// Fails only if memory cannot be allocated.
     pub fn walker(&self, front: &Front<T>) -> Result<Cursor<T, N, P>, AllocError>
         requires { front.now.name ≡ P.history }

@@ -1,4 +1,4 @@
-//! Segments of cells, and the shelf: the list of live segments.
+//! Segments of cells, and the list of live segments.
 
 ghost use Rattle.std.specs.Prelude.{◌≡◌, ◌<◌, ◌++◌, ◌∷◌, [], true, length, IfOk, IfSome, OnOk, OnErr};
 ghost use Rattle.std.specs.Arc.{arc_value};
@@ -29,14 +29,14 @@ impl<T, N, P: Publishes<T, N>> Segment<T, N, P> {
     }
 }
 
-/// The segments in which a walker or the poster may still be, the earliest first.
+/// The live segments, the earliest first: those in which a cursor or the publisher may still be.
 #[derive(Drop)]
 pub(crate) struct LiveSegments<T, N, P: Publishes<T, N>> {
     segments: Vec<Arc<Segment<T, N, P>>>,
 }
 
 impl<T: Drop, N: Drop, P: Publishes<T, N>> LiveSegments<T, N, P> {
-    /// Makes an empty shelf.
+    /// Makes an empty list.
     pub(crate) fn new(alloc: Global) -> LiveSegments<T, N, P>
         ensures { result.segments.items ≡ [] }
     {
@@ -45,7 +45,7 @@ impl<T: Drop, N: Drop, P: Publishes<T, N>> LiveSegments<T, N, P> {
         }
     }
 
-    /// Returns a handle of the segment that begins at record `from`, if it is on the shelf.
+    /// Returns a handle of the segment that begins at record `from`, if that is in the list.
     pub(crate) fn beginning_at(&self, from: usize) -> Option<Arc<Segment<T, N, P>>>
         ensures { IfSome result (λ segment. (arc_value segment).from ≡ from) }
     {
@@ -57,7 +57,7 @@ impl<T: Drop, N: Drop, P: Publishes<T, N>> LiveSegments<T, N, P> {
         None
     }
 
-    // Returns `true` if no walker and no poster holds the first segment.
+    // Returns `true` if no cursor and no publisher holds the first segment.
     fn is_first_left(&self) -> bool
         ensures { result ≡ true → 0 < length self.now.segments.items }
     {
@@ -67,7 +67,7 @@ impl<T: Drop, N: Drop, P: Publishes<T, N>> LiveSegments<T, N, P> {
         }
     }
 
-    // Drops the segments at the beginning that no one holds.
+    // Drops the first segments that no cursor and no publisher holds.
     #[tactic(auto, using(crate::proofs::Shelves::left_all, crate::proofs::Shelves::left_rest))]
     fn drop_left(&mut self)
         ensures { AreLeft self.old.segments.items self.new.segments.items }
@@ -77,8 +77,7 @@ impl<T: Drop, N: Drop, P: Publishes<T, N>> LiveSegments<T, N, P> {
         }
     }
 
-    /// Appends a segment to the shelf, and drops the segments at its beginning that no walker and no poster
-    /// holds.
+    /// Appends a segment to the list, and drops the first segments that no cursor and no publisher holds.
     #[tactic(auto, using(crate::proofs::Shelves::left_more))]
     pub(crate) fn add(&mut self, segment: Arc<Segment<T, N, P>>) -> Result<(), AllocError>
         ensures added { OnOk result

@@ -11,7 +11,7 @@ use std::alloc::{AllocError, Global};
 use std::collections::VecDeque;
 use std::marker::{Model, PhantomData};
 
-/// Which notes belong to a record: a relation for contracts. An implementation has no function.
+/// The relation between a record and its note, for contracts. An implementation has no function.
 pub trait Witnessed<T, N> {
     ghost notes: { T → N → Type 0 };
 }
@@ -49,7 +49,7 @@ impl<T, N, M: Witnessed<T, N>> Model for Window<T, N, M> {
 }
 
 impl<T, N, M: Witnessed<T, N>> Window<T, N, M> {
-    /// Makes a window over the pen's history, which has no records yet.
+    /// Makes a window over the history of `pen`, which has no records yet.
     pub fn new(alloc: Global, mut pen: AppendToken<T>) -> Window<T, N, M>
         requires { pen.list ≡ [] }
         ensures name { result.name ≡ unstored pen.number }
@@ -66,7 +66,7 @@ impl<T, N, M: Witnessed<T, N>> Window<T, N, M> {
         }
     }
 
-    /// Makes a window over the pen's history, which begins with this record. It has no note of it.
+    /// Makes a window over the history of `pen`, which begins with the record `draft`. It has no note of it.
     pub fn begun(alloc: Global, mut pen: AppendToken<T>, draft: GhostRecord<T>) -> Window<T, N, M>
         requires { pen.list ≡ [] }
         ensures name { result.name ≡ unstored pen.number }

@@ -127,8 +127,8 @@ impl RwCore {
         Ok(())
     }
 
-    /// Ends the transaction without an open call, and returns the results that it has read, in order. The
-    /// holder of its base must release it.
+    /// Ends the transaction and returns the results that it has read, in order. No call may be open. Its list
+    /// of changes is dropped, and its caller must release the hold of its base.
     pub fn finish(self) -> Vec<Given>
         requires { IsRwIdle self }
         ensures { result.items ≡ self.answers }

@@ -49,7 +49,7 @@ fn by_calls<J: Naming>(
     Ok(asked.max(stuck).max(fed))
 }
 
-/// Makes a node of the log, and one of the pen.
+/// Makes a node whose records this log stores, and one whose records are ghost: `pen` appends them.
 fn nodes<J: Naming>(
     rt: &impl Wait,
     alloc: Global,

@@ -24,9 +24,9 @@ impl GhostRecords<DbCore, Event> for AsState {
 }
 
 impl DbCore {
-    /// Ends the history and its holds, and begins one that the pen writes, with the newest state as its single
-    /// event. The rows stay where they are: it does the work of a vacuum up to the newest stamp, and none for
-    /// each row.
+    /// Ends the history and its holds, and begins one to which `pen` appends, with the newest state as its
+    /// single event. The rows stay where they are: it does the work of a vacuum up to the newest stamp, and
+    /// none for each row.
     ///
     /// The new history can be read from that event on. Fails if the store has used half of its stamps or of its
     /// places.

@@ -6,14 +6,14 @@ use Rattle.txc_site_workers.proofs.Guests.{number_at}
 use Rattle.txc_site_workers.proofs.threads.WorkerClient.TheSendSync as guest
 use Rattle.txc_site_workers.proofs.threads.run_each.Goals as goal
 
--- a guest owns a client
+-- a worker's client owns a client of the site
 pub map_vec-visited-requires-send-J : goal.map_vec-visited-requires-send-J
 map_vec-visited-requires-send-J g c κs within =
     argument_send _ _ _
     (guest.the_send _
     (site_client_send _ (param 0 g.row.A) (param 1 g.row.D) (param 3 g.row.J) g.A.App g.D.Definition g.J.Naming c.type_bounds.send-D))
 
--- each guest has the number of his place, and a client of the site's plan
+-- each worker's client has the number of its place, and a client of the site's plan
 pub returns-in-Ok-clause-gives : goal.returns-in-Ok-clause-gives
 returns-in-Ok-clause-gives g c = λ number d short.
     let guests = c.args.guests in

@@ -36,6 +36,6 @@ new_spec 𝓤 𝓛 𝓜 𝓡 wired T L =
     enter ! 𝓣.C 𝓣.Λ fn [] Post $ alloc_all ! (λ l. pass_all ! refl tt $
     use0 𝓛 (later (some (λ (γ : ℕ). ‵ (written R γ [])))) (written_new 𝓛 R) $ await ! tt $ pick ! (λ γ.
     use0 𝓛 (‵ (Blank 𝓛 R)) (pen_made 𝓛 R) $ fjoin ! $
-    -- [the pen; the tokens]
+    -- [the token of the history; the tokens]
     sets ! (agg ! (no_more !)) refl (tt, tt) $ sets ! (agg ! (and_then ! (get ! refl) (no_more !))) refl (tt, (tt, tt)) $ nothing ! $
     returns ! (look_at ! 0 refl) $ free_all ! refl $ keep ! (2 ∷ 0 ∷ 1 ∷ []) $ by ! (ends 𝓛 En hs c y token (record { marker = record {}; number = γ; list = [] }) tt tt (fact_i 𝓤 _ (emp 𝓤) refl)))))

@@ -1,4 +1,4 @@
--- A draft of what is there.
+-- A ghost record of a value.
 use Rattle.std.proofs.Common.{ℕ, [], ◌∷◌, refl}
 use seplogic.Ra.Ura.{Ura}
 use mir.Syntax.{a_type, dcons, dnil, named}
@@ -53,6 +53,6 @@ of_spec 𝓤 𝓛 𝓜 𝓡 wired T X N _ _ _ g d _ =
     qed 𝓛 ((‵ toks ⊛ ‵ (owns (types_at En.signature.params κs) a y.0.4)) ∷ raw ((c κs a).requires gh) ∷ []) ∵ keep ! (0 ∷ []) $ split ! $ keep ! (0 ∷ []) $
     enter ! 𝓣.C 𝓣.Λ fn (vptr b o ∷ []) Post $ alloc_all ! (λ l. pass_all ! refl ((tt, tt), tt) $
     nothing ! $ use0 𝓛 (‵ (Paper 𝓛 R)) (paper_made 𝓛 R) $ fjoin ! $ sets ! (agg ! (no_more !)) refl (tt, tt) $ sets ! (agg ! (and_then ! (get ! refl) (no_more !))) refl (tt, (tt, tt)) $
-    -- [the draft; the tokens]
+    -- [the ghost record; the tokens]
     nothing ! $ nothing ! $ fjoin ! $
     returns ! (look_at ! 0 refl) $ free_all ! refl $ keep ! (2 ∷ 0 ∷ 1 ∷ []) $ by ! (ends 𝓛 En hs c y token (record { marker = record {}; value = g.record_of x }) (tt, tt) (tt, tt) (fact_i 𝓤 _ (emp 𝓤) refl))))
