@@ -389,7 +389,7 @@ uint32_t txc_pin(txc_site *site, uint64_t moment, uint32_t *stamp);
  * transaction can read any more. Call it now and then: there is room for 1,024 pins. Work that was done before an error is written and
  * stays done.
  * TXC_DONE, TXC_NO_MEMORY, or TXC_REFUSED: the store of the rows, or the node, failed by itself. Call it again; if it fails again,
- * close the site and open it anew. */
+ * close the site and open another. */
 uint32_t txc_keep(txc_site *site, uint64_t now, uint64_t age, txc_kept *kept);
 
 /* Trims the site's node as txc_node_trim does, whatever is open: call it after a txc_keep, or between other calls, and the results
