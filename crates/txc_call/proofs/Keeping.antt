@@ -39,14 +39,10 @@ use Rattle.txc_call.specs.Laws.{at_start, CallsComeToTheirValues, InsertionsAreT
 use Rattle.txc_call.proofs.Claims.{meets_at}
 use Rattle.txc_call.proofs.Answering.{rows_answer, value_answers}
 use Rattle.txc_call.proofs.Transitions.{few_by}
-use Rattle.txc_call.proofs.OneAsk.{asks_there}
+use Rattle.txc_call.proofs.OneAsk.{asks_there, let_by}
 use Rattle.txc_call.proofs.OpenFrames.{closed, free_below, hold_closed, hold_opened, hold_resumed, in_given, opened, resumed, unreached_given}
 
 -- ---- refusals that did not come
-
-allowed : (o : Option CallError) (s : Standing) (T : Type 0) → UnlessRefused o (Ok s) T → (o ≡ None) × T
-allowed (Some error) s T h = absurd (cc)
-allowed None s T h = (refl, h)
 
 there_by_test : (g : ℕ) (o : Option Activity) → cond (is_some o) None (Some (errors.NoFunction g)) ≡ None → IsSome o
 there_by_test g (Some a) h = refl
@@ -155,8 +151,8 @@ module _ (next : Next) (top : Call) (law : RightAnswersGiveTheValue) (s : Standi
   ask_keeps : (outer : List Frame) (asked : ℕ) (frame : Frame) (ask : Ask) (os : Objects) (goes_on : Onward) → AreFew next.limits.asks outer
       → IsOpen next os top ask (frame ∷ outer) → GoesOn goes_on frame outer os → AskTransition next.limits outer asked frame ask os goes_on (Ok s) → KeepsFrames (frame ∷ outer) os
   ask_keeps outer asked frame ask os goes_on few h on transition =
-      let counted = allowed (count_refusal next.limits.asks frame.answers asked) s (UnlessRefused (ask_refusal next.limits os frame.key.function ask) (Ok s) (AllowedTransition outer (asked + 1) frame ask os goes_on (Ok s))) transition in
-      let fine = allowed (ask_refusal next.limits os frame.key.function ask) s (AllowedTransition outer (asked + 1) frame ask os goes_on (Ok s)) counted.1 in
+      let counted = let_by (count_refusal next.limits.asks frame.answers asked) s (UnlessRefused (ask_refusal next.limits os frame.key.function ask) (Ok s) (AllowedTransition outer (asked + 1) frame ask os goes_on (Ok s))) transition in
+      let fine = let_by (ask_refusal next.limits os frame.key.function ask) s (AllowedTransition outer (asked + 1) frame ask os goes_on (Ok s)) counted.1 in
       allowed_keeps outer (asked + 1) frame os goes_on few (few_by next.limits.asks frame.answers asked (sym counted.0)) ask fine.0 h on fine.1
 
   -- an answer reaches the innermost frame
@@ -621,8 +617,8 @@ module _ (next : Next) (s : Standing) where
   ask_counts : (outer : List Frame) (asked : ℕ) (frame : Frame) (ask : Ask) (os : Objects) (goes_on : Onward)
       → ((idle_os : Objects) (bytes : List ℕ) → goes_on idle_os bytes → Counts (asked + 1)) → AskTransition next.limits outer asked frame ask os goes_on (Ok s) → Counts asked
   ask_counts outer asked frame ask os goes_on on transition =
-      let counted = allowed (count_refusal next.limits.asks frame.answers asked) s (UnlessRefused (ask_refusal next.limits os frame.key.function ask) (Ok s) (AllowedTransition outer (asked + 1) frame ask os goes_on (Ok s))) transition in
-      let fine = allowed (ask_refusal next.limits os frame.key.function ask) s (AllowedTransition outer (asked + 1) frame ask os goes_on (Ok s)) counted.1 in
+      let counted = let_by (count_refusal next.limits.asks frame.answers asked) s (UnlessRefused (ask_refusal next.limits os frame.key.function ask) (Ok s) (AllowedTransition outer (asked + 1) frame ask os goes_on (Ok s))) transition in
+      let fine = let_by (ask_refusal next.limits os frame.key.function ask) s (AllowedTransition outer (asked + 1) frame ask os goes_on (Ok s)) counted.1 in
       allowed_counts outer asked frame ask os goes_on on fine.1
 
   value_counts : (frames : List Frame) (asked : ℕ) (o : Outcome) (os : Objects) → AfterValue next frames asked o os (Ok s) → Counts asked

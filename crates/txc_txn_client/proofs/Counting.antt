@@ -13,7 +13,6 @@ use Rattle.txc_app.specs.declared.ask.Ask.{Ask}
 use Rattle.txc_app.specs.declared.ask.Ask.TheVariants as asks
 use Rattle.txc_app.specs.Eval.{Next}
 use Rattle.txc_call_registry.specs.Objects.{Objects}
-use Rattle.txc_call.specs.declared.error.CallError.{CallError}
 use Rattle.txc_call.specs.declared.frame.Frame.{Frame}
 use Rattle.txc_call.specs.declared.frames.TheConstants.{MAX_CALL_ASKS}
 use Rattle.txc_call.specs.declared.need.Need.{Need}
@@ -26,6 +25,7 @@ use Rattle.txc_call.specs.Frames.{begun_frame, given}
 use Rattle.txc_app.specs.declared.ask.Answer.TheVariants as answers
 use Rattle.txc_cushion.specs.Pin.{pin_of}
 use Rattle.txc_call.specs.MachineTurn.{Turn as CallTurn}
+use Rattle.txc_call.proofs.OneAsk.{let_by}
 use Rattle.txc_txn.specs.TxnCore.{CoreAsks, CoreValue, IsAnswered, IsNarrowed, IsPinningAt, IsTurn, PinningFits, PinsAfter, WaitsForPin}
 use Rattle.txc_txn.specs.RunningTxn.{TxnValue, IsTxn, HasGoneOn}
 use Rattle.txc_txn.specs.Transitions.{CallTransition, HitTransition, ReplyTransition, StandingTransition}
@@ -49,10 +49,6 @@ Counts asked s = ((o : Outcome) × (s.need ≡ Some (needs.Value o))) ⊎ ((aske
 counts_more : (asked : ℕ) (s : Standing) → Counts (asked + 1) s → Counts asked s
 counts_more asked s = ⊎_elim (λ done. inl done) (λ (more : ((asked + 1) < s.asked) × (s.asked ≤ MAX_CALL_ASKS)). let less = more.0 in inr (omega (arith, less), more.1))
 
-allowed : (x : Option CallError) (s : Standing) (P : Type 0) → UnlessRefused x (Ok s) P → (x ≡ None) × P
-allowed None s P h = (refl, h)
-allowed (Some e) s P h = cc h
-
 within_budget : (most own all : ℕ) → count_refusal most own all ≡ None → all < MAX_CALL_ASKS
 within_budget most own all is = grind (arith, nat_tests)
 
@@ -75,8 +71,8 @@ ask_counts : (limits : Limits) (asked : ℕ) (s : Standing) (frame : Frame) (out
     → ((os : Objects) (bytes : List ℕ) → goes_on os bytes → Counts (asked + 1) s)
     → (ask : Ask) (os : Objects) → AskTransition limits outer asked frame ask os goes_on (Ok s) → Counts asked s
 ask_counts limits asked s frame outer goes_on on ask os transition =
-    let counted = allowed (count_refusal limits.asks frame.answers asked) s (UnlessRefused (ask_refusal limits os frame.key.function ask) (Ok s) (AllowedTransition outer (asked + 1) frame ask os goes_on (Ok s))) transition in
-    let fine = allowed (ask_refusal limits os frame.key.function ask) s (AllowedTransition outer (asked + 1) frame ask os goes_on (Ok s)) counted.1 in
+    let counted = let_by (count_refusal limits.asks frame.answers asked) s (UnlessRefused (ask_refusal limits os frame.key.function ask) (Ok s) (AllowedTransition outer (asked + 1) frame ask os goes_on (Ok s))) transition in
+    let fine = let_by (ask_refusal limits os frame.key.function ask) s (AllowedTransition outer (asked + 1) frame ask os goes_on (Ok s)) counted.1 in
     allowed_counts asked s (within_budget limits.asks frame.answers asked counted.0) frame outer goes_on on ask os fine.1
 
 module _ (next : Next) (s : Standing) where
