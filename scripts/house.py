@@ -24,7 +24,7 @@ from sources import ROOT
 
 # So many methods stand away from their type, and so many statements in more than one crate: less is welcome, more is a fault.
 MOST_AWAY = 9
-MOST_SHARED = 62
+MOST_SHARED = 4
 # The crates that head a group, each with how the names of its others begin.
 HEADS = {
     "txc_base": "txc_base_", "txc_stamp": "", "txc_tags": "", "txc_stream": "", "txc_node": "", "txc_rows": "", "txc_validity": "", "txc_db": "txc_db_",

@@ -1,6 +1,6 @@
 -- Activations that were given right answers.
-use Rattle.std.proofs.Common.{◌≡◌, ℕ, zero, suc, ◌+◌, ◌-◌, ◌<◌, ◌≤◌, List, [], ◌∷◌, ◌++◌, length, take, append_assoc, append-nil, Option, Some, None, slice_get, true, cond, nat_lt, nat_le, refl, sym, ap, subst, ◌∙◌, arith}
-use Rattle.std.proofs.lemmas.Bool.Decides.{nat_tests}
+use Rattle.std.proofs.Common.{◌≡◌, ℕ, zero, suc, ◌+◌, ◌-◌, ◌<◌, ◌≤◌, List, [], ◌∷◌, ◌++◌, length, take, append_assoc, append-nil, Option, Some, None, slice_get, cond, refl, sym, ap, subst, ◌∙◌, arith}
+use Rattle.std.proofs.lemmas.Bool.{lt-ltb, le-leb}
 use Rattle.txc_tags.specs.Keys.{Call}
 use Rattle.txc_rows.specs.declared.query.Query.{Query}
 use Rattle.txc_rows.specs.States.{State, answer}
@@ -15,16 +15,10 @@ use Rattle.txc_app.proofs.Evals.{below_is}
 after_both : (xs ys : List Query) (o : Evaluation) → after_meeting xs (after_meeting ys o) ≡ after_meeting (xs ++ ys) o
 after_both xs ys o = ap (λ (qs : List Query). record { value = o.value; met = qs }) (sym (append_assoc xs ys o.met))
 
-lt_is : (g f : ℕ) → g < f → nat_lt g f ≡ true
-lt_is g f h = grind (arith, nat_tests)
-
-le_is : (a b : ℕ) → a ≤ b → nat_le a b ≡ true
-le_is a b h = grind (arith, nat_tests)
-
 -- a call of a function below, inside an activation
 called : (next : Next) (k g : Call) (s : State) → g.function < k.function → call_below next (λ q. answer q s) k.function g ≡ evaluation next g s
 called next k g s low =
-    below_is next (λ q. answer q s) k.function g ∙ ap (λ b. cond b (evaluation next g s) no_value) (lt_is g.function k.function low)
+    below_is next (λ q. answer q s) k.function g ∙ ap (λ b. cond b (evaluation next g s) no_value) (lt-ltb g.function k.function low)
 
 -- one right answer
 step : (next : Next) (k : Call) (s : State) (o : Option Ask) (a : Answer) (rest : Answer → Evaluation) → IsRight next k.function s o a
@@ -70,7 +64,7 @@ module _ (next : Next) (k : Call) (s : State) where
       → left_after n given ≡ record { value = Some bytes; met = [] }
   unfolding activation
   done_is given bytes zero some e short = absurd (omega arith)
-  done_is given bytes (suc n) some e short = rw (e, le_is (length bytes) next.limits.value short) refl
+  done_is given bytes (suc n) some e short = rw (e, le-leb (length bytes) next.limits.value short) refl
 
 asks_left : (given most : ℕ) → given < most → (n : ℕ) × (most ≡ given + suc n)
 asks_left given most few = (most - 1 - given, omega arith)

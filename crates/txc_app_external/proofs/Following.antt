@@ -1,12 +1,12 @@
 -- The states of a history that follows the snapshots.
 use Rattle.std.proofs.Common.{◌≡◌, ◌⊎◌, inl, inr, ℕ, zero, suc, ◌+◌, ◌-◌, ◌<◌, ◌≤◌, List, [], ◌∷◌, ◌++◌, length, length-append, append-nil, take, fold, slice_get, Some, Bool, true, false, cond, refl, sym, ap, subst, ◌∙◌, arith}
-use Rattle.std.specs.List.{Contains}
 use Rattle.std.proofs.lemmas.List.{take-append-le, take_all}
 use Rattle.std.proofs.lemmas.List.Sums.{fold-append}
 use Rattle.std.proofs.lemmas.Option.{none-some, same_Some}
-use Rattle.txc_tags.proofs.Lists.{IsIn}
+use Rattle.std.proofs.lemmas.Bool.{cases_lt}
 use Rattle.txc_rows.specs.declared.query.Change.TheVariants.{Put}
 use Rattle.txc_rows.specs.States.{State, after_changes}
+use Rattle.txc_rows.proofs.Offered.{is_in}
 use Rattle.txc_db.specs.Facts.{Fact, commit, pin, EventValue}
 use Rattle.txc_db.specs.History.{History, state_after_event, moment_of, pinned_moment, moment_at, pin_event}
 use Rattle.txc_app_external.specs.Snapshots.{Snapshots, last_snapshot, is_noted, last_noted, version_row, version_rows, IsVersionTable}
@@ -18,11 +18,6 @@ use Rattle.txc_app_external.proofs.Puts.{under, changes_of, events_are, all_put,
 abbrev state_of : History → State
 state_of L = fold state_after_event [] L
 
-stands_in : {X : Type 0} (xs : List X) (x : X) → Contains xs x → IsIn x xs
-stands_in [] x h = absurd (let low = h.1 in omega (arith, low))
-stands_in (y ∷ ys) x (zero, low, is) = inl (sym is)
-stands_in (y ∷ ys) x (suc i, low, is) = inr (stands_in ys x (i, omega arith, is))
-
 -- the commits of the next step make the next version table
 after_step : (D : Snapshots) (k : ℕ) (s : State) (commits : List EventValue) → IsVersionTable D k s → AreStepCommits D (suc k) commits → PutAll D (suc k) commits
     → IsVersionTable D (suc k) (fold state_after_event s commits)
@@ -30,7 +25,7 @@ after_step D k s commits table of_step all t =
     ap (under t) (events_are commits s) ∙ go (is_noted D (suc k) t) refl
   where
     go : (b : Bool) → is_noted D (suc k) t ≡ b → under t (after_changes (changes_of commits) s) ≡ version_rows t (cond b (Some (suc k)) (last_noted D t k))
-    go true noted = is_put D (suc k) t (changes_of commits) (all_put D (suc k) commits of_step) (stands_in (changes_of commits) (Put (version_row t (suc k))) (all t noted)) s
+    go true noted = is_put D (suc k) t (changes_of commits) (all_put D (suc k) commits of_step) (is_in (changes_of commits) (Put (version_row t (suc k))) (all t noted)) s
     go false not_noted = keeps D (suc k) t (changes_of commits) (all_put D (suc k) commits of_step) not_noted s ∙ table t
 
 module _ (D : Snapshots) where
@@ -110,14 +105,7 @@ take_past zero j (x ∷ xs) ys same = absurd (omega arith)
 take_past (suc n) j (x ∷ xs) ys same = ap (λ zs. x ∷ zs) (take_past n j xs ys (omega arith))
 
 low_or_past : (n l : ℕ) → (n ≤ l) ⊎ ((j : ℕ) × (n ≡ l + suc j))
-low_or_past n l = go (le_or_lt n l)
-  where
-    le_or_lt : (n l : ℕ) → (n ≤ l) ⊎ (l < n)
-    le_or_lt n l = grind arith
-
-    go : (n ≤ l) ⊎ (l < n) → (n ≤ l) ⊎ ((j : ℕ) × (n ≡ l + suc j))
-    go (inl low) = inl low
-    go (inr past) = inr (n - suc l, omega arith)
+low_or_past n l = elim (cases_lt l n) [ inl past ↦ inr (n - suc l, omega arith) | inr low ↦ inl low ]
 
 first_commits : (D : Snapshots) (k j : ℕ) (commits : List EventValue) → AreStepCommits D k commits → AreStepCommits D k (take j commits)
 first_commits D k zero commits h = tt

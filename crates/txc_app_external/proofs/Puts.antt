@@ -5,10 +5,12 @@ use Rattle.std.specs.List.{AllByRecursion, flat_map}
 use Rattle.std.proofs.lemmas.List.Elements.{filter-append}
 use Rattle.std.proofs.lemmas.Bool.Decides.{nat_tests}
 use Rattle.txc_tags.proofs.Lists.{bool_cases, both_true, and_true, not_both, IsIn}
+use Rattle.txc_tags.proofs.All.{all-append}
 use Rattle.txc_rows.specs.declared.query.Query.TheVariants.{ById}
 use Rattle.txc_rows.specs.declared.query.Change.{Change}
 use Rattle.txc_rows.specs.declared.query.Change.TheVariants.{Put}
 use Rattle.txc_rows.specs.States.{RowValue, State, row_before, answer, after_change, after_changes}
+use Rattle.txc_rows.proofs.ChangeLemmas.{changes_then}
 use Rattle.txc_db.specs.Facts.{Fact, commit, pin, EventValue, net_of}
 use Rattle.txc_db.specs.History.{state_after_event}
 use Rattle.txc_app_external.specs.Snapshots.{Tag, Snapshots, equal_tags, is_noted, version_row}
@@ -147,10 +149,6 @@ module _ (D : Snapshots) (k : ℕ) (t : Tag) where
 
 -- ---- lists of events
 
-changes_append : (xs ys : List Change) (s : State) → after_changes (xs ++ ys) s ≡ after_changes ys (after_changes xs s)
-changes_append [] ys s = refl
-changes_append (x ∷ xs) ys s = changes_append xs ys (after_change x s)
-
 -- the changes of events
 abbrev pub changes_of : List EventValue → List Change
 changes_of events = flat_map (λ e. net_of e.fact) events
@@ -163,11 +161,7 @@ pub events_are : (events : List EventValue) (s : State) → fold state_after_eve
 events_are [] s = refl
 events_are (e ∷ es) s =
     events_are es (state_after_event s e)
-    ∙ (ap (after_changes (changes_of es)) (event_is e.fact e.tags s) ∙ sym (changes_append (net_of e.fact) (changes_of es) s))
-
-all_append : (D : Snapshots) (k : ℕ) (xs ys : List Change) → AllByRecursion (PutsVersion D k) xs → AllByRecursion (PutsVersion D k) ys → AllByRecursion (PutsVersion D k) (xs ++ ys)
-all_append D k [] ys a b = b
-all_append D k (x ∷ xs) ys a b = (a.0, all_append D k xs ys a.1 b)
+    ∙ (ap (after_changes (changes_of es)) (event_is e.fact e.tags s) ∙ sym (changes_then (net_of e.fact) (changes_of es) s))
 
 net_puts : (D : Snapshots) (k : ℕ) (f : Fact) → IsStepCommit D k f → AllByRecursion (PutsVersion D k) (net_of f)
 net_puts D k (commit net) h = h
@@ -175,4 +169,4 @@ net_puts D k (pin moment) h = absurd h
 
 pub all_put : (D : Snapshots) (k : ℕ) (events : List EventValue) → AreStepCommits D k events → AllByRecursion (PutsVersion D k) (changes_of events)
 all_put D k [] h = tt
-all_put D k (e ∷ es) h = all_append D k (net_of e.fact) (changes_of es) (net_puts D k e.fact h.0) (all_put D k es h.1)
+all_put D k (e ∷ es) h = all-append (PutsVersion D k) (net_of e.fact) (changes_of es) (net_puts D k e.fact h.0) (all_put D k es h.1)

@@ -1,8 +1,9 @@
 -- What the versions of the tags of a read decide.
-use Rattle.std.proofs.Common.{◌≡◌, inl, inr, ◌⊎◌, ℕ, zero, suc, ◌<◌, ◌≤◌, List, [], ◌∷◌, map, Option, Some, None, Bool, true, false, cond, refl, ap, ◌∙◌, arith}
+use Rattle.std.proofs.Common.{◌≡◌, inl, inr, ℕ, zero, suc, ◌<◌, ◌≤◌, List, [], ◌∷◌, map, Option, Some, None, Bool, true, false, cond, refl, ap, ◌∙◌, arith}
 use Rattle.std.specs.List.{list_any}
 use Rattle.std.specs.Option.{unwrap_or}
 use Rattle.std.proofs.lemmas.Fmt.{decimal_is_IsNumeral}
+use Rattle.std.proofs.lemmas.Bool.{cases_lt}
 use Rattle.txc_app.specs.declared.ask.Answer.{Answer}
 use Rattle.txc_app.specs.declared.ask.Answer.TheVariants as answers
 use Rattle.txc_app_external.specs.Snapshots.{Tag, Snapshots, last_snapshot, is_noted, last_noted, version_rows}
@@ -32,10 +33,7 @@ module _ (D : Snapshots) where
       go : (b : Bool) → is_noted D (suc k) t ≡ b → unwrap_or (cond b (Some (suc k)) (last_noted D t k)) 0 ≤ j
           → (last t k ≤ j → j < n → n ≤ k → is_noted D n t ≡ false) → is_noted D n t ≡ false
       go true e h rest = absurd (omega arith)
-      go false e h rest = elim (splits n k within) [ inl before ↦ rest h after before | inr same ↦ here same e ]
-        where
-          splits : (n k : ℕ) → n ≤ suc k → (n ≤ k) ⊎ (n ≡ suc k)
-          splits n k h = grind arith
+      go false e h rest = elim (cases_lt k n) [ inl past ↦ here (omega (arith, past, within)) e | inr before ↦ rest h after before ]
 
   number_is : (t : Tag) (k : ℕ) → k ≤ last_snapshot D → AreNumbered D → noted_in (version_rows t (last_noted D t k)) ≡ last t k
   number_is t k taken few = go (last_noted D t k) (last_below t k)

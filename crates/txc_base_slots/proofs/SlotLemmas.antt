@@ -10,6 +10,8 @@ use Rattle.std.proofs.lemmas.Map.Keys.{sorted_head, sorted_tail}
 use Rattle.std.specs.Map.{keys_of, lookup, set_value, remove_entry}
 use Rattle.std.specs.BTreeMap.{insert_entry}
 use Rattle.std.proofs.lemmas.List.Sorted.{IsPermutation-refl, IsPermutation-trans, IsPermutation-append_left, IsPermutation-append_right, IsPermutation-append_comm}
+use Rattle.std.proofs.lemmas.Map.Lookups.{exact_unsigned}
+use Rattle.std.proofs.lemmas.Option.{same_Some}
 use Rattle.txc_base_slots.specs.declared.slots.SlotKey.{SlotKey}
 use Rattle.txc_base_slots.specs.Slots.{key_cmp, is_key, held_at, held, undone, Changes}
 
@@ -25,9 +27,6 @@ equal Less e = absurd (let f = e in cc)
 equal Equal e = refl
 equal Greater e = absurd (let f = e in cc)
 
-number_equal : (a b : ℕ) → nat_cmp a b ≡ Equal → a ≡ b
-number_equal a b e = grind (arith, nat_tests)
-
 abbrev key_of : ℕ → ℕ → ℕ → SlotKey
 key_of t n i = record { table = t; number = n; id = i }
 
@@ -36,9 +35,9 @@ pub key_exact : (k l : SlotKey) → is_key k l ≡ true → k ≡ l
 key_exact k l same =
     let tables = then_equal (nat_cmp k.table l.table) _ same in
     let numbers = then_equal (nat_cmp k.number l.number) _ tables.1 in
-    let t = number_equal k.table l.table tables.0 in
-    let n = number_equal k.number l.number numbers.0 in
-    let i = number_equal k.id l.id (equal _ numbers.1) in
+    let t = exact_unsigned k.table l.table tables.0 in
+    let n = exact_unsigned k.number l.number numbers.0 in
+    let i = exact_unsigned k.id l.id (equal _ numbers.1) in
     let it : key_of k.table k.number k.id ≡ key_of l.table l.number l.id = rw (t, n, i) refl in
     it
 
@@ -51,9 +50,6 @@ pub aside : {X : Type 0} (a b c : List X) → IsPermutation (a ++ (b ++ c)) (b +
 aside a b c =
     let turned : IsPermutation ((a ++ b) ++ c) ((b ++ a) ++ c) = IsPermutation-append_left c _ _ (IsPermutation-append_comm a b) in
     subst (λ l. IsPermutation l (b ++ (a ++ c))) (append_assoc a b c) (subst (IsPermutation ((a ++ b) ++ c)) (append_assoc b a c) turned)
-
-some_is : {X : Type 0} (x y : X) → Some x ≡ Some y → x ≡ y
-some_is x y e = let f = e in cc
 
 all-append : {X : Type 0} (P : X → Type 0) (xs ys : List X) → AllByRecursion P xs → AllByRecursion P ys → AllByRecursion P (xs ++ ys)
 all-append P [] ys one two = two
@@ -76,7 +72,7 @@ module _ {V : Type 0} (test : SlotKey → Bool) where
     where
       go : (b : Bool) → test e.0 ≡ b → cond b (Some e.1) (lookup test es) ≡ Some was → (lookup test es ≡ Some was → set_value test (set_value test es w) was ≡ es)
           → set_value test (set_value test (e ∷ es) w) was ≡ e ∷ es
-      go true at found more = rw (at, at) (ap (λ v. (e.0, v) ∷ es) (sym (some_is e.1 was found)))
+      go true at found more = rw (at, at) (ap (λ v. (e.0, v) ∷ es) (sym (same_Some e.1 was found)))
       go false at found more = rw (at, at) (ap (λ xs. e ∷ xs) (more found))
 
   pub held_removed : (es : List (SlotKey × Option V)) → lookup test es ≡ Some None → held (remove_entry test es) ≡ held es
@@ -84,7 +80,7 @@ module _ {V : Type 0} (test : SlotKey → Bool) where
   held_removed (e ∷ es) found = go (test e.0) found (held_removed es)
     where
       go : (b : Bool) → cond b (Some e.1) (lookup test es) ≡ Some None → (lookup test es ≡ Some None → held (remove_entry test es) ≡ held es) → held (cond b es (e ∷ remove_entry test es)) ≡ held_at e.0 e.1 ++ held es
-      go true found more = rw (some_is e.1 None found) refl
+      go true found more = rw (same_Some e.1 None found) refl
       go false found more = ap (λ xs. held_at e.0 e.1 ++ xs) (more found)
 
 module _ {V : Type 0} (k : SlotKey) where
@@ -150,7 +146,7 @@ undone_noted cs k was value old new found are = undone_last cs (k, was) new ∙ 
 
 -- ---- what is held is found
 
-number_itself : (a : ℕ) → nat_cmp a a ≡ Equal
+pub number_itself : (a : ℕ) → nat_cmp a a ≡ Equal
 number_itself a = grind (arith, nat_tests)
 
 pub key_itself : (k : SlotKey) → is_key k k ≡ true

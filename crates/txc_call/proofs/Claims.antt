@@ -1,13 +1,11 @@
 -- What holds over reaches, put together and weakened.
-use Rattle.std.proofs.Common.{◌≡◌, inl, inr, ℕ, ◌≤◌, Bool, false, ◌==◌, ◌||◌, ◌&&◌, max, min, nat_le, List, [], ◌∷◌, ◌++◌, append-nil, Option, Some, None, true, refl, sym, ap, subst, ◌∙◌, arith}
-use Rattle.std.proofs.lemmas.Bool.{eqb-true}
-use Rattle.std.proofs.lemmas.Bool.Decides.{nat_tests}
+use Rattle.std.proofs.Common.{◌≡◌, ℕ, ◌&&◌, max, min, List, [], ◌∷◌, ◌++◌, append-nil, Option, Some, None, true, refl, sym, subst, ◌∙◌, arith}
+use Rattle.std.proofs.lemmas.Bool.{le-leb}
 use Rattle.txc_stamp.specs.Interval.{Interval, Holds, meet_of}
 use Rattle.txc_tags.specs.declared.tag.Tag.{Tag}
-use Rattle.txc_tags.specs.declared.tag.Rows.{Rows}
-use Rattle.txc_tags.specs.declared.tag.Rows.TheVariants.{All, Id, Group}
-use Rattle.txc_tags.specs.Tags.{covers, has_tag, same_rows, same_tag, wildcard, with_tags}
-use Rattle.txc_tags.proofs.Offered.{bool_cases, both_true, and_true, any_found, all_keep, all_covered}
+use Rattle.txc_tags.specs.Tags.{covers, with_tags}
+use Rattle.txc_tags.proofs.Offered.{both_true, and_true, all_keep}
+use Rattle.txc_tags.proofs.Covering.{all_cover}
 use Rattle.txc_rows.specs.declared.query.Query.{Query}
 use Rattle.txc_rows.specs.States.{State}
 use Rattle.txc_rows.specs.RowTags.{query_tag, covers_query}
@@ -16,42 +14,6 @@ use Rattle.txc_app.specs.Claims.{covers_all, HoldsOver}
 use Rattle.txc_call.specs.Reaches.{InReach, ReachesMeet, meet}
 
 -- ---- cover
-
-same_rows_is : (rows others : Rows) → same_rows rows others ≡ true → rows ≡ others
-same_rows_is All All e = refl
-same_rows_is (Id n) (Id m) e = ap (λ (k : ℕ). Id k) (eqb-true n m e)
-same_rows_is (Group n) (Group m) e = ap (λ (k : ℕ). Group k) (eqb-true n m e)
-same_rows_is rows others e = absurd (cc)
-
-same_tag_is : (a b : Tag) → same_tag a b ≡ true → a ≡ b
-same_tag_is a b e =
-    let two = both_true (a.table == b.table) (same_rows a.rows b.rows) e in
-    let table : a.table ≡ b.table = eqb-true a.table b.table two.0 in
-    let rows : a.rows ≡ b.rows = same_rows_is a.rows b.rows two.1 in
-    λ k. record { table = table k; rows = rows k }
-
--- a set covers what it has of the tags that were added to it
-has_covered : (more set : List Tag) (tag : Tag) → has_tag more tag ≡ true → covers (with_tags more set) tag ≡ true
-has_covered more set tag e =
-    let found = any_found (same_tag tag) more e in
-    subst (λ (x : Tag). covers (with_tags more set) x ≡ true) (sym (same_tag_is tag found.0 found.2)) (all_covered more found.0 set found.1)
-
-or_itself : (b : Bool) → b || b ≡ true → b ≡ true
-or_itself true e = refl
-or_itself false e = e
-
-or_right : (a b : Bool) → b ≡ true → a || b ≡ true
-or_right true b e = refl
-or_right false b e = e
-
-cover_other : (more set : List Tag) (tag : Tag) → covers more tag ≡ true → covers (with_tags more set) tag ≡ true
-cover_other more set tag e = elim (bool_cases (has_tag more tag)) [
-  | inl here ↦ has_covered more set tag here
-  | inr none ↦
-      let wild : has_tag more (wildcard tag.table) ≡ true = rw none at e in
-      or_right (has_tag (with_tags more set) tag) (has_tag (with_tags more set) (wildcard tag.table))
-      (or_itself (has_tag (with_tags more set) (wildcard tag.table)) (has_covered more set (wildcard tag.table) wild))
-]
 
 -- a joined set covers what the old one covered
 all_one : (tags more : List Tag) (qs : List Query) → covers_all tags qs ≡ true → covers_all (with_tags more tags) qs ≡ true
@@ -65,7 +27,7 @@ all_other : (tags more : List Tag) (qs : List Query) → covers_all more qs ≡ 
 all_other tags more [] h = refl
 all_other tags more (q ∷ qs) h =
     let two = both_true (covers_query more q) (covers_all more qs) h in
-    and_true (covers_query (with_tags more tags) q) (covers_all (with_tags more tags) qs) (cover_other more tags (query_tag q) two.0) (all_other tags more qs two.1)
+    and_true (covers_query (with_tags more tags) q) (covers_all (with_tags more tags) qs) (all_cover more tags (query_tag q) two.0) (all_other tags more qs two.1)
 
 all_both : (tags : List Tag) (qs rs : List Query) → covers_all tags qs ≡ true → covers_all tags rs ≡ true → covers_all tags (qs ++ rs) ≡ true
 all_both tags [] rs h k = k
@@ -75,15 +37,12 @@ all_both tags (q ∷ qs) rs h k =
 
 -- ---- reaches
 
-le_is : (a b : ℕ) → a ≤ b → nat_le a b ≡ true
-le_is a b h = grind (arith, nat_tests)
-
 abbrev pub both : Interval → Interval → Interval
 both a b = record { lo = max a.lo b.lo; known = min a.known b.known; still = a.still && b.still }
 
 -- where a stamp is held by both, their meet
 pub meet_is : (t : ℕ) (a b : Interval) → Holds a t → Holds b t → meet_of a b ≡ Some (both a b)
-meet_is t a b h k = let h0 = h.0 in let h1 = h.1 in let k0 = k.0 in let k1 = k.1 in rw (le_is (max a.lo b.lo) (min a.known b.known) (omega (arith, h0, h1, k0, k1))) refl
+meet_is t a b h k = let h0 = h.0 in let h1 = h.1 in let k0 = k.0 in let k1 = k.1 in rw (le-leb (max a.lo b.lo) (min a.known b.known) (omega (arith, h0, h1, k0, k1))) refl
 
 in_both : (t : ℕ) (a b : Interval) → Holds (both a b) t → Holds a t × Holds b t
 in_both t a b h = let h0 = h.0 in let h1 = h.1 in ((omega (arith, h0, h1), omega (arith, h0, h1)), (omega (arith, h0, h1), omega (arith, h0, h1)))

@@ -33,7 +33,7 @@ use Rattle.txc_call.proofs.Claims.{meets_at}
 use Rattle.txc_call.proofs.Answering.{rows_answer, value_answers}
 use Rattle.txc_call.proofs.Transitions.{few_by}
 use Rattle.txc_call.proofs.OneAsk.{allowed_of, counted_of, order_let}
-use Rattle.txc_call.proofs.Offered.{standing, reply_keeps}
+use Rattle.txc_call.proofs.Offered.{standing, reply_keeps, value_fits}
 use Rattle.txc_call.proofs.OpenFrames.{closed, free_below, hold_closed, hold_opened, hold_resumed, in_given, opened, resumed, unreached_given}
 
 -- ---- refusals that did not come
@@ -325,15 +325,12 @@ module _ (next : Next) (law : RightAnswersGiveTheValue) (L : History) (k : Call)
 pub calls_come_to_their_values : RightAnswersGiveTheValue → CallsComeToTheirValues
 calls_come_to_their_values law next L k objects replies s o from is =
     let two = led_from next law L k objects replies s from in
-    let fits : NeedFits next s.objects k (Some (needs.Value o)) s.frames = subst (λ (n : Option Need). NeedFits next s.objects k n s.frames) is two.0 in
-    let open_none : IsOpen next s.objects k (asks.Call o.key) [] = subst (λ (fs : List Frame). IsOpen next s.objects k (asks.Call o.key) fs) fits.1 fits.0.open_frames in
-    let calls : asks.Call o.key ≡ asks.Call k = open_none.stack in
-    let same : o.key ≡ k = cc in
+    let end = value_fits next s.objects k s.need s.frames o is two.0 in
     let holds : NeedHolds next L s.objects (Some (needs.Value o)) s.frames = subst (λ (n : Option Need). NeedHolds next L s.objects n s.frames) is two.1 in
     record {
-      of_call = same;
-      holds = subst (λ (j : Call). ValueHolds next L j o.value o.reach o.tags) same holds.0;
-      all_idle = open_none.free;
+      of_call = end.2;
+      holds = subst (λ (j : Call). ValueHolds next L j o.value o.reach o.tags) end.2 holds.0;
+      all_idle = end.1;
     }
 
 pub insertions_are_true : RightAnswersGiveTheValue → InsertionsAreTrue

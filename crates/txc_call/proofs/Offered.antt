@@ -15,7 +15,7 @@ use Rattle.txc_call.specs.declared.need.Need.TheVariants as needs
 use Rattle.txc_call.specs.declared.need.Outcome.{Outcome}
 use Rattle.txc_call.specs.declared.reply.Reply.{Reply}
 use Rattle.txc_call.specs.declared.reply.Reply.TheVariants as replies
-use Rattle.txc_call.specs.Frames.{begun_frame, given, released}
+use Rattle.txc_call.specs.Frames.{begun_frame, given, released, IsStack}
 use Rattle.txc_call.specs.Needs.{NeedFits, ReplyFits}
 use Rattle.txc_call.specs.CallSteps.{value_need, stays_held, need_after, due_ask, with_resumed, AfterRan, AfterOneAsk, FunctionExists}
 use Rattle.txc_call.specs.MachineTurn.{Standing, ask_refusal, count_refusal, value_refusal, outcome_of, outwards, rows_held, value_held, unreached, with_answer, with_begun, AfterAsk, AfterReply, AfterValue, AllowedTransition, AnswerTransition, DoneTransition}
@@ -28,6 +28,14 @@ finished next objects top o frames fits = (
   fits.1,
   subst (λ (fs : List Frame). AllIdle (released fs objects)) fits.1 fits.0.open_frames.free,
 )
+
+-- what a call is done with is all that is left of it
+pub value_fits : (next : Next) (objects : Objects) (top : Call) (need : Option Need) (frames : List Frame) (o : Outcome) → need ≡ Some (needs.Value o) → NeedFits next objects top need frames
+    → (frames ≡ []) × AllIdle objects × (o.key ≡ top)
+value_fits next objects top need frames o is h =
+    let done = subst (λ (n : Option Need). NeedFits next objects top n frames) is h in
+    let at_bottom : asks.Call o.key ≡ asks.Call top = subst (λ (fs : List Frame). IsStack next objects top (asks.Call o.key) fs) done.1 done.0.open_frames.stack in
+    (done.1, (finished next objects top o frames done).1, cc)
 
 -- ---- an induction over what comes of a reply
 

@@ -16,7 +16,7 @@ asked_numbers objects f (asks.Query q) = refl
 asked_numbers objects f (asks.Call k) = refl
 asked_numbers objects f (asks.Done bytes) = numbers_stay objects f idle
 
-resumed_numbers : (objects : Objects) (frames : List Frame) (need : Need) → numbers_of (with_resumed objects frames need) ≡ numbers_of objects
+pub resumed_numbers : (objects : Objects) (frames : List Frame) (need : Need) → numbers_of (with_resumed objects frames need) ≡ numbers_of objects
 resumed_numbers objects frames (needs.Begin k) = numbers_stay objects k.function (running (begun k.args))
 resumed_numbers objects (frame ∷ frames) (needs.Resume x) =
     numbers_stay objects frame.key.function (running (answered (activation_of objects frame.key.function) x.answer))

@@ -37,7 +37,7 @@ use Rattle.txc_txn_ports.specs.declared.request.PortRequest.{PortRequest}
 use Rattle.txc_txn_ports.specs.declared.request.PortRequest.TheVariants as requests
 use Rattle.txc_txn_ports.specs.declared.reply.PortReply.{PortReply}
 use Rattle.txc_txn_ports.specs.declared.reply.PortReply.TheVariants as replies
-use Rattle.txc_caller.proofs.Some.{for_none, for_this}
+use Rattle.txc_txn_ports.proofs.Options.{for_none, for_this}
 use Rattle.txc_caller.proofs.Letting.{grown_by, grown_same}
 use Rattle.txc_caller.specs.Budgets.{node_bytes, HasComeWithin, HasMadeRoomFor, IsInBudget}
 use Rattle.txc_caller.specs.Ports.{CallerPorts, AreCallerPorts, CallerAddTransition, CallerFindTransition, HasAskedPorts, HasGrownDatabase, CallerInsertTransition, KeepsNode, CallerLookupTransition, CallerPinTransition, CallerSweepTransition, CallerTrimTransition, CallerUnpinTransition}
@@ -73,18 +73,12 @@ MayBreak n e = Unit {0}
 pub step_breaks : (n : NodeValue) (e : NodeError) → IsStepRefused n e → MayBreak n e
 step_breaks n errors.Broken (inl was) = inl was
 step_breaks n errors.Broken (inr may) = inr may.in_row
-step_breaks n errors.EmptyRange refused = tt
-step_breaks n errors.HistoryFull refused = tt
-step_breaks n errors.PassesFull refused = tt
-step_breaks n errors.Memory refused = tt
+step_breaks n e refused = tt
 
 pub lookup_breaks : (n : NodeValue) (lo hi : ℕ) (e : NodeError) → IsLookupRefused n lo hi e → MayBreak n e
 lookup_breaks n lo hi errors.Broken (inl was) = inl was
 lookup_breaks n lo hi errors.Broken (inr may) = inr may.0.in_row
-lookup_breaks n lo hi errors.EmptyRange refused = tt
-lookup_breaks n lo hi errors.HistoryFull refused = tt
-lookup_breaks n lo hi errors.PassesFull refused = tt
-lookup_breaks n lo hi errors.Memory refused = tt
+lookup_breaks n lo hi e refused = tt
 
 pub node_left : (old new : NodeValue) (e : NodeError) → MayBreak old e → IsNodeLeft old new e → KeepsNode old new
 node_left old new errors.Broken may (inl same) = node_same old new same.0
@@ -97,10 +91,7 @@ node_left old new errors.Broken may (inr broke) = record {
     breaks : (old.broken ≡ true) ⊎ HasRow old.name → ¬ (HasRow old.name) → new.broken ≡ old.broken
     breaks (inl was) none = ap (λ (n : NodeValue). n.broken) broke.is ∙ sym was
     breaks (inr stored) none = absurd (none stored)
-node_left old new errors.EmptyRange may same = node_same old new same
-node_left old new errors.HistoryFull may same = node_same old new same
-node_left old new errors.PassesFull may same = node_same old new same
-node_left old new errors.Memory may same = node_same old new same
+node_left old new e may same = node_same old new same
 
 -- a sweep, by what it returns
 pub swept : (old new : NodeValue) (horizon : ℕ) (r : Result ℕ NodeError) → OnOk r (new ≡ after_call old 0 (Sweep horizon)) → IfOk r (λ count. count ≡ swept_count old.cache horizon)
@@ -174,11 +165,6 @@ pub looked_up : (key : Call) (lo hi : ℕ) (old new : NodeValue) (r : Result (Op
 looked_up key lo hi old new (Ok (Some hit)) after answer front left refused = (after, sym answer, front)
 looked_up key lo hi old new (Ok None) after answer front left refused = inl (after, sym answer)
 looked_up key lo hi old new (Err e) after answer front left refused = inr (e, refused, left)
-
--- what holds of what it found holds of what the node has
-pub found_so : (P : Answered HitValue → Type 0) (r : Result (Option (Answered HitValue)) NodeError) → IfOk r (λ o. IfSome o P) → IfSome (result_unwrap_or r None) P
-found_so P (Ok o) h = h
-found_so P (Err e) h = tt
 
 -- what a hit shows is of the row
 pub hit_row : (old new : NodeValue) (key : Call) (lo hi : ℕ) (hit : Option (Answered HitValue)) (row : Name) → old.seen.events ≡ row → CallerLookupTransition key lo hi old new hit

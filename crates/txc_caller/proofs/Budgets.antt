@@ -117,10 +117,7 @@ pub left_cache : (old new : NodeValue) (e : NodeError) → MayBreak old e → ¬
 left_cache old new errors.Broken may none (inl same) = ap (λ (n : NodeValue). n.cache) same.0
 left_cache old new errors.Broken (inl was) none (inr broke) = let no : true ≡ false = sym was ∙ broke.was in absurd (cc no)
 left_cache old new errors.Broken (inr stored) none (inr broke) = absurd (none stored)
-left_cache old new errors.EmptyRange may none same = ap (λ (n : NodeValue). n.cache) same
-left_cache old new errors.HistoryFull may none same = ap (λ (n : NodeValue). n.cache) same
-left_cache old new errors.PassesFull may none same = ap (λ (n : NodeValue). n.cache) same
-left_cache old new errors.Memory may none same = ap (λ (n : NodeValue). n.cache) same
+left_cache old new e may none same = ap (λ (n : NodeValue). n.cache) same
 
 pub left_bytes : (old new : NodeValue) (e : NodeError) → IsStepRefused old e → ¬ (HasRow old.name) → IsNodeLeft old new e → node_bytes new ≡ node_bytes old
 left_bytes old new e refused none left = ap (λ (c : Cache). bytes_of c.entries) (left_cache old new e (step_breaks old e refused) none left)

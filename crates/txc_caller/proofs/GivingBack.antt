@@ -1,28 +1,18 @@
 -- Users of pins that are given back, one pin after another.
-use Rattle.std.proofs.Common.{◌≡◌, ◌∙◌, ℕ, zero, suc, ◌+◌, ◌-◌, ◌<◌, ◌≤◌, ◌==◌, Bool, true, false, cond, List, [], ◌∷◌, length, map, take, drop, get_or, Some, All, inl, inr, refl, ap, sym, subst, arith, eq-eqb, eqb-true, ne_eqb, zero-add, slice_get}
+use Rattle.std.proofs.Common.{◌≡◌, ◌∙◌, ℕ, zero, suc, ◌+◌, ◌-◌, ◌<◌, ◌≤◌, ◌==◌, Bool, true, false, cond, List, [], ◌∷◌, length, map, take, drop, get_or, Some, All, inl, inr, refl, ap, sym, subst, arith, eq-eqb, eqb-true, ne_eqb, slice_get}
 use Rattle.std.proofs.lemmas.List.{at_drop_more, drop_all}
 use Rattle.std.proofs.lemmas.List.Elements.{All-head, All-tail}
-use Rattle.std.proofs.lemmas.List.Sums.{sum_by-cons}
 use Rattle.txc_cushion.specs.declared.pin.Pin.{Pin}
 use Rattle.txc_cushion.specs.declared.entry.PinEntry.{PinEntry}
 use Rattle.txc_cushion.specs.Pin.{PinsDescend}
 use Rattle.txc_cushion.specs.Entries.{is_among, times, users_of, with_user, without_users}
 use Rattle.txc_cushion.specs.Cushion.{after_fresh, after_give_back, handed_out, CushionValue, IsCushion}
 use Rattle.txc_cushion.specs.Refusals.{HaveUsers, IsFirstUnused}
-use Rattle.txc_cushion.proofs.Counts.{fresh_counts, give_back_counts}
+use Rattle.txc_cushion.proofs.Counts.{fresh_counts, give_back_counts, times_cons, times_on, times_off}
 use Rattle.txc_cushion.proofs.HandedOut.{handed_falls}
 use Rattle.txc_caller.specs.Ports.{AreGivenBack}
 
 -- ---- how often a stamp is named
-
-pub times_cons : (t x : ℕ) (xs : List ℕ) → times t (x ∷ xs) ≡ cond (x == t) 1 0 + times t xs
-times_cons t x xs = sum_by-cons (λ (s : ℕ). cond (s == t) 1 0) x xs
-
-pub times_on : (t x : ℕ) (xs : List ℕ) → (x == t) ≡ true → times t (x ∷ xs) ≡ 1 + times t xs
-times_on t x xs is = times_cons t x xs ∙ rw is refl
-
-pub times_off : (t x : ℕ) (xs : List ℕ) → (x == t) ≡ false → times t (x ∷ xs) ≡ times t xs
-times_off t x xs is = times_cons t x xs ∙ rw is (zero-add (times t xs))
 
 abbrev pub named : List Pin → List ℕ
 named pins = map (λ (p : Pin). p.stamp) pins

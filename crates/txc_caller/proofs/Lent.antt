@@ -1,14 +1,14 @@
 -- A transaction whose functions its caller runs: what stays true from one request or ask to the next.
 use Rattle.std.proofs.Common.{◌≡◌, ◌∙◌, ◌≤◌, ℕ, Bool, true, false, eqb, Option, Some, None, IsSome, List, [], ◌∷◌, Ok, Err, inl, inr, refl, ap, sym, subst}
 use Rattle.std.specs.Option.{ForSome}
+use Rattle.txc_call_ghosts.proofs.Numbers.{resumed_numbers}
 use Rattle.txc_tags.specs.Keys.{Call}
 use Rattle.txc_tags.specs.declared.key.TheConstants.{LAST_FUNCTION}
 use Rattle.txc_app.specs.declared.ask.Ask.{Ask}
 use Rattle.txc_app.specs.declared.ask.Ask.TheVariants as asks
-use Rattle.txc_call_registry.specs.Activity.{Activity, answered, begun, running}
+use Rattle.txc_call_registry.specs.Activity.{Activity}
 use Rattle.txc_app.specs.Eval.{Next}
-use Rattle.txc_call_registry.specs.Objects.{AllIdle, Objects, activation_of, activity_of, numbers_of}
-use Rattle.txc_call_registry.proofs.Offered.{numbers_stay}
+use Rattle.txc_call_registry.specs.Objects.{AllIdle, Objects, activity_of, numbers_of}
 use Rattle.txc_call.specs.declared.frame.Frame.{Frame}
 use Rattle.txc_call.specs.declared.need.Need.{Need}
 use Rattle.txc_call.specs.declared.need.Need.TheVariants as needs
@@ -16,12 +16,12 @@ use Rattle.txc_call.specs.Needs.{NeedFits}
 use Rattle.txc_call.specs.CallSteps.{with_resumed, FunctionExists, NeedsFunction}
 use Rattle.txc_txn_ports.specs.declared.turn.Turn.TheVariants.{Ask as Asks, Ended}
 use Rattle.txc_txn_ports.specs.Turns.{PortTurn, IsAsk}
+use Rattle.txc_txn_ports.proofs.Options.{for_none}
 use Rattle.txc_txn.specs.declared.pinning.Pinning.{Pinning}
 use Rattle.txc_txn.specs.ByHand.{FirstExists, HandTurn, IsHandTurn, IsUnended, ObjectsLeft}
 use Rattle.txc_txn.specs.TxnCore.{CoreValue, either_call, first_call, open_call, running_call, IsCore, IsIdle, IsTurn}
 use Rattle.txc_caller.specs.CallerTxn.{IsRestingCore}
 use Rattle.txc_caller.specs.ComputedFunctions.{top_call, HaveAllFunctions}
-use Rattle.txc_caller.proofs.Some.{for_none}
 
 -- ---- there is an object for each function
 
@@ -43,12 +43,6 @@ there_by (o ∷ os) (u ∷ us) f same there =
 
 pub all_there : (os us : Objects) → numbers_of us ≡ numbers_of os → HaveAllFunctions os → HaveAllFunctions us
 all_there os us same all = λ f low. there_by os us f same (all f low)
-
-resumed_numbers : (objects : Objects) (frames : List Frame) (need : Need) → numbers_of (with_resumed objects frames need) ≡ numbers_of objects
-resumed_numbers objects frames (needs.Begin k) = numbers_stay objects k.function (running (begun k.args))
-resumed_numbers objects (frame ∷ frames) (needs.Resume x) =
-    numbers_stay objects frame.key.function (running (answered (activation_of objects frame.key.function) x.answer))
-resumed_numbers objects frames need = refl
 
 -- so an ask calls one that there is
 pub ask_there : (objects : Objects) (frames : List Frame) (need : Need) (ask : Ask) → HaveAllFunctions objects

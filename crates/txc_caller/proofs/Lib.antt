@@ -1,6 +1,5 @@
 pub mod Some
 pub mod Looking
-pub mod Fresh
 pub mod GivingBack
 pub mod Pins
 pub mod Reading

@@ -11,9 +11,10 @@ use Rattle.txc_cushion.specs.Entries.{times, users_of, with_entry, without_users
 use Rattle.txc_cushion.specs.Pin.{pin_of}
 use Rattle.txc_cushion.specs.Cushion.{after_add, after_give_back, CushionValue}
 use Rattle.txc_cushion.specs.Refusals.{IsAddable}
+use Rattle.txc_cushion.proofs.Counts.{times_cons, times_on}
 use Rattle.txc_caller.specs.SparePins.{HasPinnedNewest}
 use Rattle.txc_caller.specs.Ports.{AreGivenBack, CallerPorts}
-use Rattle.txc_caller.proofs.GivingBack.{times_cons, times_on, used_back}
+use Rattle.txc_caller.proofs.GivingBack.{used_back}
 
 -- ---- the users of a pin that was added
 

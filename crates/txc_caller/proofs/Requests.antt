@@ -32,10 +32,10 @@ use Rattle.txc_txn.specs.declared.pinning.Pinning.{Pinning}
 use Rattle.txc_txn.specs.declared.pinning.PinStep.{PinStep}
 use Rattle.txc_txn.specs.declared.pinning.PinStep.TheVariants.{Asked, Adding, Dropping}
 use Rattle.txc_txn.specs.ByHand.{FirstExists, HandTurn, HasAskedByHand, HasGoneOnByHand, HasSameCall, HearTransition, IsHandTurn, IsUnended, ObjectsLeft, recorded_by_hand}
-use Rattle.txc_txn.specs.TxnCore.{first_call, open_call, recorded_after, AddsOnly, CoreAsks, CoreValue, IsAnswered, IsCore, IsNoAdding, IsNoValue, IsPinningAt, IsTurn, PinningFits, WaitsForPin}
+use Rattle.txc_txn.specs.TxnCore.{first_call, open_call, AddsOnly, CoreAsks, CoreValue, IsAnswered, IsCore, IsNoAdding, IsPinningAt, IsTurn, PinningFits, WaitsForPin}
 use Rattle.txc_txn.specs.RunningTxn.{HasBegunCall, TxnValue}
 use Rattle.txc_txn.specs.Transitions.{PresentPinTransition}
-use Rattle.txc_txn.proofs.Offered.{adds_none}
+use Rattle.txc_txn.proofs.Offered.{adds_none, none_recorded}
 use Rattle.txc_caller.specs.Ports.{is_of_pin}
 use Rattle.txc_caller.specs.CallerTxn.{KeepsTxn}
 use Rattle.txc_caller.specs.ActRequests.{pins_to_come, HasPassed, IsGoing, IsHeldFor, IsTurnOf, WaitsForCall}
@@ -360,11 +360,6 @@ module _ (limits : Limits) (old mid : TxnValue) (ask : FunctionAsk) (turn : Hand
 
 -- ---- a call begins
 
-no_value : (recorded : List Recorded) (turn : PortTurn) (k : Option Call) → IsNoValue turn → recorded_after recorded turn k ≡ recorded
-no_value recorded (Ask request) k none = refl
-no_value recorded (Ended (Ok value)) k none = absurd none
-no_value recorded (Ended (Err error)) k none = refl
-
 module _ (old mid : TxnValue) (k : Call) (turn : PortTurn) (begun : HasBegunCall old k mid turn) where
   pub going_begun : (row : Name) → old.core.seen.events ≡ row → old.core.nodes ≡ 1 → IsGoing row mid.core (Some turn)
   going_begun row events nodes = record {
@@ -377,7 +372,7 @@ module _ (old mid : TxnValue) (k : Call) (turn : PortTurn) (begun : HasBegunCall
   pub of_call_begun : IsTurnOf old.core.recorded k mid.core (Some turn)
   of_call_begun = record {
     begins = begun.begins;
-    recorded = ap (λ (c : CoreValue). c.recorded) begun.same ∙ sym (no_value old.core.recorded turn (Some k) begun.no_value);
+    recorded = ap (λ (c : CoreValue). c.recorded) begun.same ∙ sym (none_recorded old.core.recorded turn (Some k) begun.no_value);
   }
 
   pub keeps_begun : KeepsTxn old mid

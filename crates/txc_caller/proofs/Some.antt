@@ -1,19 +1,6 @@
 -- What holds of a value that there is, or of none.
-use Rattle.std.proofs.Common.{◌≡◌, Option, Some, None, refl, subst}
+use Rattle.std.proofs.Common.{◌≡◌, Option, Some, None, refl}
 use Rattle.std.specs.Prelude.{IsSome}
-use Rattle.std.specs.Option.{ForSome}
-
--- what holds of a value holds of the one that there is
-pub for_this : {X : Type 0} (P : X → Type 0) (x : X) → P x → ForSome (Some x) P
-for_this P x h y is = let same : x ≡ y = cc in subst P same h
-
-pub for_none : {X : Type 0} (P : X → Type 0) → ForSome None P
-for_none P y is = absurd (cc is)
-
--- the one that there is
-pub some_of : {X : Type 0} (o : Option X) → IsSome o → (x : X) × (o ≡ Some x)
-some_of None there = absurd (cc there)
-some_of (Some x) there = (x, refl)
 
 pub none_of : {X : Type 0} (o : Option X) → ¬ (IsSome o) → o ≡ None
 none_of None never = refl

@@ -1,6 +1,5 @@
 -- A node that takes events.
-use Rattle.std.proofs.Common.{◌≡◌, ◌∙◌, Bool, true, false, List, [], ◌∷◌, ◌++◌, append-nil, inl, inr, refl, ap, subst, sym}
-use Rattle.std.specs.List.{AllByRecursion}
+use Rattle.std.proofs.Common.{◌≡◌, ◌∙◌, Bool, true, false, List, [], ◌++◌, append-nil, inl, inr, refl, ap, subst, sym}
 use Rattle.std.proofs.lemmas.List.{append_assoc}
 use Rattle.txc_db.specs.DatabaseValue.{DatabaseValue}
 use Rattle.txc_db.specs.FrontsAndFeeds.{FrontValue}
@@ -16,10 +15,7 @@ use Rattle.txc_caller.specs.Budgets.{node_bytes}
 use Rattle.txc_caller.specs.Ports.{GoesOnByEvents, HasNoEventFor, IsOfEvent, MayHaveTaken, StaysBehind}
 use Rattle.txc_caller.proofs.Budgets.{event_bytes, left_bytes}
 use Rattle.txc_caller.proofs.Asked.{changes_so, node_left, node_same, step_breaks}
-
-both : (rs ss : List Record) → AllByRecursion (λ r. IsOfEvent r.op) rs → AllByRecursion (λ r. IsOfEvent r.op) ss → AllByRecursion (λ r. IsOfEvent r.op) (rs ++ ss)
-both [] ss hr hs = hs
-both (r ∷ rs) ss hr hs = (hr.0, both rs ss hr.1 hs)
+use Rattle.txc_tags.proofs.All.{all-append}
 
 -- none was taken
 pub none_taken : (old new : NodeValue) → new ≡ old → GoesOnByEvents old new
@@ -42,7 +38,7 @@ taken_then old mid new a b = record {
   bytes = λ none. b.bytes (λ has. none (subst HasRow (ap (λ (n : NodeValue). n.name) a.keeps.same) has)) ∙ a.bytes none;
   more = a.more ++ b.more;
   records = b.records ∙ (ap (λ (rs : List Record). rs ++ b.more) a.records ∙ append_assoc old.records a.more b.more);
-  events = both a.more b.more a.events b.events;
+  events = all-append (λ r. IsOfEvent r.op) a.more b.more a.events b.events;
 }
 
 -- the next was taken, or there was none
@@ -83,10 +79,7 @@ refused_so old new e refused left = record {
     records_left : (old new : NodeValue) (e : NodeError) → IsNodeLeft old new e → new.records ≡ old.records
     records_left old new errors.Broken (inl same) = ap (λ (n : NodeValue). n.records) same.0
     records_left old new errors.Broken (inr broke) = ap (λ (n : NodeValue). n.records) broke.is
-    records_left old new errors.EmptyRange same = ap (λ (n : NodeValue). n.records) same
-    records_left old new errors.HistoryFull same = ap (λ (n : NodeValue). n.records) same
-    records_left old new errors.PassesFull same = ap (λ (n : NodeValue). n.records) same
-    records_left old new errors.Memory same = ap (λ (n : NodeValue). n.records) same
+    records_left old new e same = ap (λ (n : NodeValue). n.records) same
 
 -- they were taken, whichever is said
 pub said_so : (d : DatabaseValue) (old new : NodeValue) (has_all : Bool) → GoesOnByEvents old new → (has_all ≡ true → HasNoEventFor d new) → (has_all ≡ false → StaysBehind d old new) → MayHaveTaken d old new

@@ -1,5 +1,5 @@
 -- A pin more.
-use Rattle.std.proofs.Common.{◌≡◌, ℕ, ◌+◌, ◌<◌, ◌≤◌, ◌==◌, ◌||◌, nat_lt, Bool, true, false, List, [], ◌∷◌, ◌++◌, length, filter, cond, zero, suc, Option, None, Some, slice_get, refl, sym, ◌∙◌, ap, subst, arith, All, ◌⊎◌, inl, inr, eq-eqb}
+use Rattle.std.proofs.Common.{◌≡◌, ℕ, ◌+◌, ◌<◌, ◌≤◌, ◌==◌, ◌||◌, nat_lt, Bool, true, false, List, [], ◌∷◌, ◌++◌, length, filter, cond, suc, Some, refl, sym, ◌∙◌, ap, subst, arith, All, ◌⊎◌, inl, inr, eq-eqb}
 use mathlib.Core.List.{IsPrefix}
 use Rattle.std.specs.List.{insert}
 use Rattle.std.proofs.lemmas.Bool.{cases_order}
@@ -8,9 +8,9 @@ use Rattle.std.proofs.lemmas.List.Edits.{length-insert}
 use Rattle.std.proofs.lemmas.List.Elements.{All-nil, All-cons, All-head, All-tail, All-append, All-filter, All-weaker}
 use Rattle.std.proofs.lemmas.List.Kept.{AllPairs-cons}
 use Rattle.std.proofs.lemmas.List.Sums.{length-filter, count_by-le-length}
-use Rattle.txc_stream.proofs.Offered.{prefix_get, prefix_length, prefix_whole}
-use Rattle.txc_db.specs.Facts.{EventValue}
-use Rattle.txc_db.specs.History.{History, moment_at, pinned_moment}
+use Rattle.txc_stream.proofs.Offered.{prefix_length, prefix_whole}
+use Rattle.txc_db.specs.History.{History, moment_at}
+use Rattle.txc_db.proofs.Histories.{moment_stays}
 use Rattle.txc_cushion.specs.declared.entry.PinEntry.{PinEntry}
 use Rattle.txc_cushion.specs.Entries.{EntriesDescend, is_pinned, with_entry}
 use Rattle.txc_cushion.specs.Cushion.{CushionValue, IsCushion, longer_of}
@@ -111,15 +111,6 @@ all_with_entry P new es here all =
     (All-cons P new (filter (λ (e : PinEntry). nat_lt e.pin.stamp new.pin.stamp) es) here (All-filter (λ (e : PinEntry). nat_lt e.pin.stamp new.pin.stamp) P es all))
 
 -- ---- histories
-
--- a longer history has the same pins
-pub moment_stays : (L more : History) (t moment : ℕ) → IsPrefix L more → moment_at L t ≡ Some moment → moment_at more t ≡ Some moment
-moment_stays L more zero moment begins at = at
-moment_stays L more (suc t) moment begins at = go (slice_get L t) refl at
-  where
-    go : (o : Option EventValue) → slice_get L t ≡ o → pinned_moment o ≡ Some moment → moment_at more (suc t) ≡ Some moment
-    go None is here = absurd (let h = here in cc)
-    go (Some e) is here = rw (prefix_get L more t e begins is) here
 
 -- what shows both of two histories, and is one of them, is the longer
 pub longer_is : (a b now : History) → (now ≡ a) ⊎ (now ≡ b) → IsPrefix a now → IsPrefix b now → now ≡ longer_of a b

@@ -23,10 +23,10 @@ use Rattle.txc_cushion.proofs.Adding.{goes_on, stands_first, not_first, not_afte
 pub times_cons : (t x : ℕ) (xs : List ℕ) → times t (x ∷ xs) ≡ cond (x == t) 1 0 + times t xs
 times_cons t x xs = sum_by-cons (λ (s : ℕ). cond (s == t) 1 0) x xs
 
-times_on : (t x : ℕ) (xs : List ℕ) → (x == t) ≡ true → times t (x ∷ xs) ≡ 1 + times t xs
+pub times_on : (t x : ℕ) (xs : List ℕ) → (x == t) ≡ true → times t (x ∷ xs) ≡ 1 + times t xs
 times_on t x xs is = times_cons t x xs ∙ rw is refl
 
-times_off : (t x : ℕ) (xs : List ℕ) → (x == t) ≡ false → times t (x ∷ xs) ≡ times t xs
+pub times_off : (t x : ℕ) (xs : List ℕ) → (x == t) ≡ false → times t (x ∷ xs) ≡ times t xs
 times_off t x xs is = times_cons t x xs ∙ rw is (zero-add (times t xs))
 
 -- where each entry is below the stamp, it is not there

@@ -3,28 +3,13 @@ use Rattle.std.proofs.Common.{◌≡◌, ◌∙◌, ℕ, ◌+◌, ◌-◌, ◌<�
 use Rattle.std.proofs.lemmas.Bool.Decides.{nat_tests}
 use Rattle.std.proofs.lemmas.List.{drop_all, drop_more, get_or-drop, length-drop, set-get_or}
 use Rattle.std.proofs.lemmas.List.Edits.{map_over_more}
-use Rattle.std.proofs.lemmas.List.Sums.{sum_by-cons}
+use Rattle.std.proofs.lemmas.Bool.{and_parts}
 use Rattle.txc_cushion.specs.declared.entry.PinEntry.{PinEntry}
 use Rattle.txc_cushion.specs.Entries.{EntriesDescend, stand_in_order, times, users_of, without_users}
 use Rattle.txc_cushion.specs.Refusals.{HaveUsers}
 use Rattle.txc_cushion.proofs.Falling.{falls_head, falls_tail}
 use Rattle.txc_cushion.proofs.HandingOut.{not_yet}
-
--- the parts of a test that passes
-both : (a b : Bool) → a && b ≡ true → (a ≡ true) × (b ≡ true)
-both true true is = (refl, refl)
-both true false is = absurd (cc)
-both false b is = absurd (cc)
-
--- how often a stamp is named by one stamp more
-times_cons : (t x : ℕ) (xs : List ℕ) → times t (x ∷ xs) ≡ cond (x == t) 1 0 + times t xs
-times_cons t x xs = sum_by-cons (λ (s : ℕ). cond (s == t) 1 0) x xs
-
-times_yes : (t x : ℕ) (xs : List ℕ) → (x == t) ≡ true → times t (x ∷ xs) ≡ 1 + times t xs
-times_yes t x xs is = let one : cond (x == t) 1 0 ≡ 1 = ap {B = ℕ} (λ (b : Bool). cond b 1 0) is in omega (arith, times_cons t x xs, one)
-
-times_no : (t x : ℕ) (xs : List ℕ) → (x == t) ≡ false → times t (x ∷ xs) ≡ times t xs
-times_no t x xs is = let none : cond (x == t) 1 0 ≡ 0 = ap {B = ℕ} (λ (b : Bool). cond b 1 0) is in omega (arith, times_cons t x xs, none)
+use Rattle.txc_cushion.proofs.Counts.{times_on, times_off}
 
 -- a stamp above those of the entries is not named
 pub not_named : (x : ℕ) (es : List PinEntry) (ss : List ℕ) → All (λ o. o.pin.stamp < x) es → stand_in_order es ss ≡ true → times x ss ≡ 0
@@ -41,7 +26,7 @@ not_named x (e ∷ es) (s ∷ ss) below order =
         let same : e.pin.stamp ≡ s = eqb-true e.pin.stamp s is in
         let less : e.pin.stamp < x = below 0 e (omega arith) in
         let off : (s == x) ≡ false = ne_eqb s x (λ eq. omega (arith, less, same, eq)) in
-        times_no x s ss off ∙ next (both (nat_lt 0 e.users) (stand_in_order es ss) order').1
+        times_off x s ss off ∙ next (and_parts (nat_lt 0 e.users) (stand_in_order es ss) order').1
     go false is next later = later (rw is at order)
 
 -- such stamps have as many users as they are named
@@ -56,14 +41,14 @@ have_in_order (e ∷ es) (s ∷ ss) falls order =
     first next is parts x true at =
         let same : e.pin.stamp ≡ s = eqb-true e.pin.stamp s is in
         let eq : e.pin.stamp ≡ x = eqb-true e.pin.stamp x at in
-        let named = times_yes x s ss (eq-eqb s x (sym same ∙ eq)) in
+        let named = times_on x s ss (eq-eqb s x (sym same ∙ eq)) in
         let none : times x ss ≡ 0 = subst (λ (t : ℕ). times t ss ≡ 0) eq (not_named e.pin.stamp es ss (falls_head e es falls) parts.1) in
         let some : nat_lt 0 e.users ≡ true = parts.0 in
         let room : 0 < e.users = grind (arith, nat_tests) in
         rw at (omega (arith, named, none, room))
     first next is parts x false at =
         let off : (s == x) ≡ false = subst (λ (t : ℕ). (t == x) ≡ false) (eqb-true e.pin.stamp s is) at in
-        let named = times_no x s ss off in
+        let named = times_off x s ss off in
         let have = next parts.1 x in
         rw at (omega (arith, named, have))
 
@@ -76,7 +61,7 @@ have_in_order (e ∷ es) (s ∷ ss) falls order =
     other later order' x false at = rw at (later order' x)
 
     go : (b : Bool) → (e.pin.stamp == s) ≡ b → (stand_in_order es ss ≡ true → HaveUsers es ss) → (stand_in_order es (s ∷ ss) ≡ true → HaveUsers es (s ∷ ss)) → HaveUsers (e ∷ es) (s ∷ ss)
-    go true is next later = λ x. first next is (both (nat_lt 0 e.users) (stand_in_order es ss) (rw is at order)) x (e.pin.stamp == x) refl
+    go true is next later = λ x. first next is (and_parts (nat_lt 0 e.users) (stand_in_order es ss) (rw is at order)) x (e.pin.stamp == x) refl
     go false is next later = λ x. other later (rw is at order) x (e.pin.stamp == x) refl
 
 -- once there is no entry more, the stamps stand so where all of them were found
@@ -99,15 +84,15 @@ named_first : (e : PinEntry) (es : List PinEntry) (ss : List ℕ) → EntriesDes
 named_first e es ss falls order =
     let itself : (e.pin.stamp == e.pin.stamp) ≡ true = eq-eqb e.pin.stamp e.pin.stamp refl in
     let order' : nat_lt 0 e.users && stand_in_order es ss ≡ true = rw itself at order in
-    let parts = both (nat_lt 0 e.users) (stand_in_order es ss) order' in
+    let parts = and_parts (nat_lt 0 e.users) (stand_in_order es ss) order' in
     let some : nat_lt 0 e.users ≡ true = parts.0 in
     let none : times e.pin.stamp ss ≡ 0 = not_named e.pin.stamp es ss (falls_head e es falls) parts.1 in (
       grind (arith, nat_tests),
-      omega (arith, times_yes e.pin.stamp e.pin.stamp ss itself, none),
+      omega (arith, times_on e.pin.stamp e.pin.stamp ss itself, none),
       parts.1,
       (λ k d within.
           let less : (get_or es k d).pin.stamp < e.pin.stamp = falls_head e es falls k d within in
-          times_no (get_or es k d).pin.stamp e.pin.stamp ss (ne_eqb e.pin.stamp (get_or es k d).pin.stamp (λ eq. omega (arith, less, eq)))),
+          times_off (get_or es k d).pin.stamp e.pin.stamp ss (ne_eqb e.pin.stamp (get_or es k d).pin.stamp (λ eq. omega (arith, less, eq)))),
     )
 
 -- the first entry's stamp isn't the first that is named: it is not named, and the stamps stand among the others
@@ -189,7 +174,7 @@ module _ (es now : List PinEntry) (ss : List ℕ) (i n : ℕ) (x : PinEntry) (fa
 
   next_is : is_next ≡ true → (n < length ss) × (x.pin.stamp ≡ get_or ss n 0)
   next_is is =
-      let parts = both (nat_lt n (length ss)) (x.pin.stamp == get_or ss n 0) is in
+      let parts = and_parts (nat_lt n (length ss)) (x.pin.stamp == get_or ss n 0) is in
       let less : nat_lt n (length ss) ≡ true = parts.0 in
       (grind (arith, nat_tests), eqb-true x.pin.stamp (get_or ss n 0) parts.1)
 

@@ -22,7 +22,7 @@ use Rattle.txc_db.proofs.Histories.{state_before, tags_stay}
 
 -- ---- with a net change or none
 
-empty_or : (net : List Change) → (net ≡ []) ⊎ (net ≢ [])
+pub empty_or : (net : List Change) → (net ≡ []) ⊎ (net ≢ [])
 empty_or [] = inl refl
 empty_or (c ∷ cs) = inr (λ e. let f = e in absurd cc)
 
@@ -37,7 +37,7 @@ event_commit : (d : DatabaseValue) (changes : List Change) → newest_net d chan
     → after_commit d changes ≡ after_event_of d (commit_event (newest_state d) changes) (newest_net d changes)
 event_commit d changes some = some_is (newest_net d changes) d (after_event_of d (commit_event (newest_state d) changes) (newest_net d changes)) some
 
-event_history : (d : DatabaseValue) (changes : List Change) → newest_net d changes ≢ []
+pub event_history : (d : DatabaseValue) (changes : List Change) → newest_net d changes ≢ []
     → (after_commit d changes).history ≡ d.history ++ commit_event (newest_state d) changes ∷ []
 event_history d changes some = ap (λ (v : DatabaseValue). v.history) (event_commit d changes some)
 

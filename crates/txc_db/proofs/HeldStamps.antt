@@ -3,23 +3,20 @@ use Rattle.std.proofs.Common.{◌≡◌, ◌≢◌, ℕ, ◌+◌, ◌≤◌, ◌
 use Rattle.std.specs.List.{AllByRecursion}
 use Rattle.txc_db.specs.DatabaseValue.{DatabaseValue, newest, IsSound, IsReadable, StampsAscend, least, without, is_held, holds_of}
 use Rattle.txc_db.specs.Laws.{OneHoldLess}
+use Rattle.txc_tags.proofs.All.{all-append}
 
 -- ---- one hold more
 
-pub all_push : (P : ℕ → Type 0) (xs : List ℕ) (x : ℕ) → AllByRecursion P xs → P x → AllByRecursion P (xs ++ x ∷ [])
-all_push P [] x h p = (p, tt)
-all_push P (y ∷ ys) x h p = (h.0, all_push P ys x h.1 p)
-
 pub rises_push : (horizon newest : ℕ) (xs : List ℕ) → AllByRecursion (IsReadable horizon newest) xs → StampsAscend xs → StampsAscend (xs ++ newest ∷ [])
 rises_push horizon newest [] held rises = (tt, tt)
-rises_push horizon newest (x ∷ xs) held rises = (all_push (λ t. x ≤ t) xs newest rises.0 held.0.high, rises_push horizon newest xs held.1 rises.1)
+rises_push horizon newest (x ∷ xs) held rises = (all-append (λ t. x ≤ t) xs (newest ∷ []) rises.0 (held.0.high, tt), rises_push horizon newest xs held.1 rises.1)
 
 pub hold_sound : (d : DatabaseValue) → IsSound d → IsSound (record d { holds = d.holds ++ newest d ∷ [] })
 hold_sound d s = record {
   tagged = s.tagged;
   kept = s.kept;
   limit = s.limit;
-  held = all_push (IsReadable d.horizon (newest d)) d.holds (newest d) s.held (record { low = s.kept.kept; high = omega arith });
+  held = all-append (IsReadable d.horizon (newest d)) d.holds (newest d ∷ []) s.held (record { low = s.kept.kept; high = omega arith }, tt);
   rising = rises_push d.horizon (newest d) d.holds s.held s.rising;
 }
 

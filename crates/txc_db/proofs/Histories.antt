@@ -1,9 +1,12 @@
 -- States and tags of histories.
-use Rattle.std.proofs.Common.{◌≡◌, ℕ, zero, suc, ◌≤◌, ◌<◌, List, [], ◌∷◌, ◌++◌, length, take, fold, true, false, Some, slice_get, refl, ap, sym, ◌∙◌, arith, ◌⊎◌, inl, inr}
+use Rattle.std.proofs.Common.{◌≡◌, ℕ, zero, suc, ◌≤◌, ◌<◌, List, [], ◌∷◌, ◌++◌, length, take, fold, true, false, Option, Some, None, slice_get, refl, ap, sym, ◌∙◌, arith, ◌⊎◌, inl, inr}
 use Rattle.std.proofs.Math.Seq.{take-length}
 use Rattle.std.proofs.lemmas.List.{take-append-le}
 use Rattle.std.proofs.lemmas.List.Sums.{fold-append}
 use Rattle.std.proofs.lemmas.List.{length_push}
+use Rattle.std.proofs.lemmas.Option.{slice_get_within}
+use mathlib.Core.List.{IsPrefix}
+use Rattle.txc_stream.proofs.Offered.{prefix_get}
 use Rattle.txc_tags.specs.declared.tag.Tag.{Tag}
 use Rattle.txc_tags.specs.Tags.{sets_match}
 use Rattle.txc_rows.specs.declared.query.Query.{Query}
@@ -87,3 +90,21 @@ tagged_pushed L e tagged beside (suc t) v at = elim (pushed_get L e v t at) [
   | inl old ↦ tagged (suc t) v old.0 ∙ sym (tags_stay L (e ∷ []) (suc t) (omega (arith, old.1)))
   | inr new ↦ ap (λ (x : EventValue). x.tags) new.1 ∙ (beside ∙ (sym (tags_pushed L e) ∙ ap (λ n. tags_at (L ++ e ∷ []) (suc n)) (sym new.0)))
 ]
+
+-- a longer history has the same pins
+pub moment_stays : (L more : History) (t moment : ℕ) → IsPrefix L more → moment_at L t ≡ Some moment → moment_at more t ≡ Some moment
+moment_stays L more zero moment begins at = at
+moment_stays L more (suc t) moment begins at = go (slice_get L t) refl at
+  where
+    go : (o : Option EventValue) → slice_get L t ≡ o → pinned_moment o ≡ Some moment → moment_at more (suc t) ≡ Some moment
+    go None is here = absurd (let h = here in cc)
+    go (Some e) is here = rw (prefix_get L more t e begins is) here
+
+-- the stamp of a pin is not beyond the history
+pub pin_within : (L : History) (t m : ℕ) → moment_at L t ≡ Some m → t ≤ length L
+pin_within L zero m is = cc is
+pin_within L (suc t) m is = go (slice_get L t) refl is
+  where
+    go : (o : Option EventValue) → slice_get L t ≡ o → pinned_moment o ≡ Some m → suc t ≤ length L
+    go None there has = cc has
+    go (Some e) there has = let within = slice_get_within L t e there in omega (arith, within)

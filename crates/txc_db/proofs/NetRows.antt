@@ -1,8 +1,12 @@
 -- The rows that net changes find, and the tags of a commit.
 use Rattle.std.proofs.Common.{◌≡◌, ◌⊎◌, inl, inr, ℕ, zero, suc, ◌+◌, ◌≤◌, List, [], ◌∷◌, ◌++◌, filter, take, Bool, true, false, cond, slice_get, Some, refl, sym, ap, subst, ◌∙◌, eqb-true, add-one}
 use Rattle.std.specs.List.{AllByRecursion, list_any, flat_map}
+use Rattle.std.proofs.lemmas.Grind.{flat_map-append}
 use Rattle.txc_tags.specs.declared.tag.Tag.{Tag}
 use Rattle.txc_tags.specs.Tags.{with_tags, set_of}
+use Rattle.txc_tags.proofs.Lists.{in_either}
+use Rattle.txc_tags.proofs.Sixteen.{with_tags_append}
+use Rattle.txc_tags.proofs.All.{all_in}
 use Rattle.txc_rows.specs.declared.query.Change.{Change}
 use Rattle.txc_rows.specs.declared.query.Query.TheVariants.{ById}
 use Rattle.txc_rows.specs.States.{RowValue, State, IsState, row_before, is_at, answer, after_changes}
@@ -14,19 +18,8 @@ use Rattle.txc_rows.proofs.Offered.{same_rows, filter_state}
 use Rattle.txc_db.specs.DatabaseValue.{DatabaseValue}
 use Rattle.txc_db.specs.Calls.{matching_of, row_query, AreFewNamed}
 use Rattle.txc_db.specs.NetGrowth.{found_rows, IsNetWith}
-use Rattle.txc_db.proofs.Settling.{tags_then, flat_then}
 
 -- ---- lists
-
-from_append : {X : Type 0} (x : X) (xs ys : List X) → IsIn x (xs ++ ys) → IsIn x xs ⊎ IsIn x ys
-from_append x [] ys h = inr h
-from_append x (y ∷ xs) ys (inl same) = inl (inl same)
-from_append x (y ∷ xs) ys (inr later) = elim (from_append x xs ys later) [ inl h ↦ inl (inr h) | inr h ↦ inr h ]
-
-all_in : {X : Type 0} (P : X → Type 0) (x : X) (xs : List X) → AllByRecursion P xs → IsIn x xs → P x
-all_in P x [] a h = absurd h
-all_in P x (y ∷ ys) a (inl same) = subst P (sym same) a.0
-all_in P x (y ∷ ys) a (inr later) = all_in P x ys a.1 later
 
 all_of : {X : Type 0} (P : X → Type 0) (xs : List X) → ((x : X) → IsIn x xs → P x) → AllByRecursion P xs
 all_of P [] each = tt
@@ -40,8 +33,8 @@ at_in x (y ∷ ys) (suc i) at = inr (at_in x ys i at)
 append_state : (xs ys : State) → IsState xs → IsState ys → ((x y : RowValue) → IsIn x xs → IsIn y ys → row_before x y ≡ true) → IsState (xs ++ ys)
 append_state [] ys hx hy before = hy
 append_state (x ∷ xs) ys hx hy before = (
-  all_of (λ (s : RowValue). row_before x s ≡ true) (xs ++ ys) (λ z h. elim (from_append z xs ys h) [
-    | inl inside ↦ all_in (λ (s : RowValue). row_before x s ≡ true) z xs hx.0 inside
+  all_of (λ (s : RowValue). row_before x s ≡ true) (xs ++ ys) (λ z h. elim (in_either z xs ys h) [
+    | inl inside ↦ all_in (λ (s : RowValue). row_before x s ≡ true) xs z hx.0 inside
     | inr later ↦ before x z (inl refl) later
   ]),
   append_state xs ys hx.1 hy (λ a b h k. before a b (inr h) k),
@@ -57,7 +50,7 @@ pub record FoundBy (s : State) (net : List Change) (r : RowValue) : Type 0 where
 
 found_from : (net : List Change) (s : State) (r : RowValue) → IsIn r (found_rows s net) → FoundBy s net r
 found_from [] s r h = absurd h
-found_from (c ∷ cs) s r h = elim (from_append r (answer (ById (change_table c) (change_id c)) s) (found_rows s cs) h) [
+found_from (c ∷ cs) s r h = elim (in_either r (answer (ById (change_table c) (change_id c)) s) (found_rows s cs) h) [
   | inl here ↦ let it = from_filter (is_at (change_table c) (change_id c)) r s here in record { change = c; one = inl refl; stands = it.0; at = it.1 }
   | inr later ↦ let it = found_from cs s r later in record { change = it.change; one = inr it.one; stands = it.stands; at = it.at }
 ]
@@ -84,7 +77,7 @@ found_state (c ∷ cs) s rise h =
     append_state (answer (ById (change_table c) (change_id c)) s) (found_rows s cs) (filter_state (is_at (change_table c) (change_id c)) s h) (found_state cs s rise.1 h)
     (λ x y hx hy.
     let it = found_from cs s y hy in
-    keyed c it.change x y (all_in (λ (d : Change). key_before c d ≡ true) it.change cs rise.0 it.one) (from_filter (is_at (change_table c) (change_id c)) x s hx).1 it.at)
+    keyed c it.change x y (all_in (λ (d : Change). key_before c d ≡ true) cs it.change rise.0 it.one) (from_filter (is_at (change_table c) (change_id c)) x s hx).1 it.at)
 
 pub found_are_rows_at : (net : List Change) (s : State) → KeysAscend net → IsState s → found_rows s net ≡ rows_at net s
 found_are_rows_at net s rise h = same_rows (found_rows s net) (rows_at net s) (found_state net s rise h) (filter_state (λ r. list_any (λ c. is_at (change_table c) (change_id c) r) net) s h) to from
@@ -107,8 +100,8 @@ pub commit_tags : NetTags → NetTransition → (s : State) (changes : List Chan
 commit_tags law transition s changes tags h is =
     let net = transition s changes h in
     let found = found_are_rows_at (net_changes s changes) s net.rising h in
-    is ∙ (sym (tags_then (flat_map tags_of_row (found_rows s (net_changes s changes))) (flat_map tags_of_row (puts_of (net_changes s changes))) [])
-    ∙ (ap (λ (ts : List Tag). with_tags ts []) (sym (flat_then tags_of_row (found_rows s (net_changes s changes)) (puts_of (net_changes s changes))))
+    is ∙ (sym (with_tags_append (flat_map tags_of_row (found_rows s (net_changes s changes))) (flat_map tags_of_row (puts_of (net_changes s changes))) [])
+    ∙ (ap (λ (ts : List Tag). with_tags ts []) (sym (flat_map-append tags_of_row (found_rows s (net_changes s changes)) (puts_of (net_changes s changes))))
     ∙ (ap (λ (rs : List RowValue). set_of (flat_map tags_of_row (rs ++ puts_of (net_changes s changes)))) found ∙ sym (law s (after_changes changes s) (net_changes s changes) h net))))
 
 -- ---- one change more
@@ -128,9 +121,9 @@ pub net_more : (s : State) (cs : List Change) (i : ℕ) (c : Change) (old new : 
 net_more s cs i c old new was is at more net tags = (
   more.net ∙ (ap (λ (xs : List Change). xs ++ filter (changes_state s) (c ∷ [])) net ∙ (filter_suc (changes_state s) cs i c at ∙ ap (λ n. filter (changes_state s) (take n cs)) (sym (add-one i)))),
   more.tags ∙ (ap (with_tags (flat_map tags_of_row (found_rows s (filter (changes_state s) (c ∷ []))))) tags
-      ∙ (sym (tags_then (flat_map tags_of_row (found_rows s old)) (flat_map tags_of_row (found_rows s (filter (changes_state s) (c ∷ [])))) [])
-      ∙ (ap (λ (ts : List Tag). with_tags ts []) (sym (flat_then tags_of_row (found_rows s old) (found_rows s (filter (changes_state s) (c ∷ [])))))
-      ∙ (ap (λ (rs : List RowValue). with_tags (flat_map tags_of_row rs) []) (sym (flat_then (λ d. answer (ById (change_table d) (change_id d)) s) old (filter (changes_state s) (c ∷ []))))
+      ∙ (sym (with_tags_append (flat_map tags_of_row (found_rows s old)) (flat_map tags_of_row (found_rows s (filter (changes_state s) (c ∷ [])))) [])
+      ∙ (ap (λ (ts : List Tag). with_tags ts []) (sym (flat_map-append tags_of_row (found_rows s old) (found_rows s (filter (changes_state s) (c ∷ [])))))
+      ∙ (ap (λ (rs : List RowValue). with_tags (flat_map tags_of_row rs) []) (sym (flat_map-append (λ d. answer (ById (change_table d) (change_id d)) s) old (filter (changes_state s) (c ∷ []))))
       ∙ ap (λ (xs : List Change). with_tags (flat_map tags_of_row (found_rows s xs)) []) (sym more.net))))),
 )
 

@@ -1,8 +1,10 @@
 -- Changes that settle, and the tags of their rows.
-use Rattle.std.proofs.Common.{◌≡◌, ℕ, zero, suc, ◌+◌, ◌&&◌, ◌||◌, ◌==◌, inl, inr, true≢false, eqb-true, eq-eqb, ne_eqb, add-one, slice_get, Some, Bool, true, false, not, List, [], ◌∷◌, ◌++◌, length, take, cond, refl, ap, sym, subst, ◌∙◌, arith, append_assoc}
+use Rattle.std.proofs.Common.{◌≡◌, ℕ, zero, suc, ◌+◌, ◌&&◌, ◌||◌, ◌==◌, inl, inr, true≢false, eqb-true, eq-eqb, ne_eqb, add-one, slice_get, Some, Bool, true, false, not, List, [], ◌∷◌, ◌++◌, length, take, cond, refl, ap, sym, subst, ◌∙◌, arith}
 use Rattle.std.specs.List.{flat_map, insert, list_any}
+use Rattle.std.proofs.lemmas.Grind.{flat_map-append}
 use Rattle.txc_tags.specs.declared.tag.Tag.{Tag}
-use Rattle.txc_tags.specs.Tags.{with_tag, with_tags}
+use Rattle.txc_tags.specs.Tags.{with_tags}
+use Rattle.txc_tags.proofs.Sixteen.{with_tags_append}
 use Rattle.txc_rows.specs.declared.query.Change.{Change}
 use Rattle.txc_rows.specs.declared.query.Change.TheVariants.{Put, Remove}
 use Rattle.txc_rows.specs.declared.query.Query.TheVariants.{ById}
@@ -42,14 +44,6 @@ placed_last c [] h = refl
 placed_last c (e ∷ es) h = rw (h.0, h.1) (ap (λ (xs : List Change). e ∷ xs) (placed_last c es h.2))
 
 -- ---- tags, one list after the other
-
-pub tags_then : (xs ys set : List Tag) → with_tags (xs ++ ys) set ≡ with_tags ys (with_tags xs set)
-tags_then [] ys set = refl
-tags_then (x ∷ xs) ys set = tags_then xs ys (with_tag x set)
-
-pub flat_then : {A B : Type 0} (f : A → List B) (xs ys : List A) → flat_map f (xs ++ ys) ≡ flat_map f xs ++ flat_map f ys
-flat_then f [] ys = refl
-flat_then f (x ∷ xs) ys = ap (λ zs. f x ++ zs) (flat_then f xs ys) ∙ sym (append_assoc (f x) (flat_map f xs) (flat_map f ys))
 
 -- ---- whether a change makes another state
 
@@ -91,7 +85,7 @@ rows_suc : (rows : List RowValue) (i : ℕ) (row : RowValue) (set : List Tag) �
 rows_suc [] i row set at = absurd (let f = at in cc)
 rows_suc (r ∷ rs) zero row set at = let same : row ≡ r = cc at in rw same refl
 rows_suc (r ∷ rs) (suc i) row set at =
-    rw (tags_then (tags_of_row r) (flat_map tags_of_row (take i rs)) set, tags_then (tags_of_row r) (flat_map tags_of_row (take (suc i) rs)) set) (rows_suc rs i row (with_tags (tags_of_row r) set) at)
+    rw (with_tags_append (tags_of_row r) (flat_map tags_of_row (take i rs)) set, with_tags_append (tags_of_row r) (flat_map tags_of_row (take (suc i) rs)) set) (rows_suc rs i row (with_tags (tags_of_row r) set) at)
 
 pub rows_more : (rows : List RowValue) (i : ℕ) (row : RowValue) (set : List Tag) → slice_get rows i ≡ Some row
     → with_tags (tags_of_row row) (with_tags (flat_map tags_of_row (take i rows)) set) ≡ with_tags (flat_map tags_of_row (take (i + 1) rows)) set
@@ -113,10 +107,10 @@ puts_suc (d ∷ ds) (suc i) c set at =
     rw (
       puts_cons d (take i ds),
       puts_cons d (take (suc i) ds),
-      flat_then tags_of_row (puts_of (d ∷ [])) (puts_of (take i ds)),
-      flat_then tags_of_row (puts_of (d ∷ [])) (puts_of (take (suc i) ds)),
-      tags_then (flat_map tags_of_row (puts_of (d ∷ []))) (flat_map tags_of_row (puts_of (take i ds))) set,
-      tags_then (flat_map tags_of_row (puts_of (d ∷ []))) (flat_map tags_of_row (puts_of (take (suc i) ds))) set,
+      flat_map-append tags_of_row (puts_of (d ∷ [])) (puts_of (take i ds)),
+      flat_map-append tags_of_row (puts_of (d ∷ [])) (puts_of (take (suc i) ds)),
+      with_tags_append (flat_map tags_of_row (puts_of (d ∷ []))) (flat_map tags_of_row (puts_of (take i ds))) set,
+      with_tags_append (flat_map tags_of_row (puts_of (d ∷ []))) (flat_map tags_of_row (puts_of (take (suc i) ds))) set,
     )
     (puts_suc ds i c (with_tags (flat_map tags_of_row (puts_of (d ∷ []))) set) at)
 

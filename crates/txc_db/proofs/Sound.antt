@@ -14,7 +14,8 @@ use Rattle.txc_db.specs.Facts.{Fact, EventValue, commit}
 use Rattle.txc_db.specs.History.{state_at, AreTagged, pin_event, after_fact}
 use Rattle.txc_db.specs.DatabaseValue.{DatabaseValue, newest, newest_state, IsLimit, IsSound, IsReadable, least}
 use Rattle.txc_db.proofs.Histories.{states_stay, state_before, state_pushed, tagged_pushed}
-use Rattle.txc_db.proofs.HeldStamps.{all_push, rises_push, least_low, least_high, readable_later, readable_from}
+use Rattle.txc_db.proofs.HeldStamps.{rises_push, least_low, least_high, readable_later, readable_from}
+use Rattle.txc_tags.proofs.All.{all-append}
 
 -- the versions keep the old states of a longer history
 kept_on : KeepsAgreed → (d : DatabaseValue) (e : EventValue) → IsSound d → KeepsStates (state_at (d.history ++ e ∷ [])) d.horizon (newest d) d.versions
@@ -44,7 +45,7 @@ pin_sound agreed quiet none d moment stamp is s = record {
   tagged = tagged_pushed d.history (pin_event moment) s.tagged (sym (none (newest_state d)));
   kept = subst (λ (n : ℕ). KeepsStates (state_at (d.history ++ pin_event moment ∷ [])) d.horizon n d.versions) (sym (len ∙ add-one (newest d))) (quiet (state_at (d.history ++ pin_event moment ∷ [])) d.horizon (newest d) d.versions stays (kept_on agreed d (pin_event moment) s));
   limit = s.limit;
-  held = rw len (all_push (IsReadable d.horizon (newest d + 1)) d.holds stamp (readable_later d.horizon (newest d) d.holds s.held) (record { low = let h = s.kept.kept in omega (arith, is, h); high = omega (arith, is) }));
+  held = rw len (all-append (IsReadable d.horizon (newest d + 1)) d.holds (stamp ∷ []) (readable_later d.horizon (newest d) d.holds s.held) (record { low = let h = s.kept.kept in omega (arith, is, h); high = omega (arith, is) }, tt));
   rising = rw is (rises_push d.horizon (newest d + 1) d.holds (readable_later d.horizon (newest d) d.holds s.held) s.rising);
 }
   where

@@ -1,5 +1,5 @@
 -- Rows by place: those before a place, those of a range of ids, and those before the place behind it.
-use Rattle.std.proofs.Common.{◌≡◌, inl, inr, ℕ, ◌+◌, ◌≤◌, List, [], ◌∷◌, ◌++◌, filter, map, length, Bool, true, false, true≢false, cond, ◌&&◌, ◌||◌, ◌==◌, nat_lt, nat_le, refl, sym, ap, subst, ◌∙◌, arith}
+use Rattle.std.proofs.Common.{◌≡◌, inl, inr, ℕ, ◌+◌, ◌≤◌, List, [], ◌∷◌, ◌++◌, filter, map, length, Bool, true, false, true≢false, ◌&&◌, ◌||◌, ◌==◌, nat_lt, nat_le, refl, sym, ap, subst, ◌∙◌, arith}
 use Rattle.std.proofs.lemmas.Bool.Decides.{nat_tests}
 use Rattle.std.specs.List.{AllByRecursion}
 use Rattle.txc_tags.proofs.Lists.{bool_cases, both_ways, filter_alike, IsIn}
@@ -10,16 +10,15 @@ use Rattle.txc_rows.specs.Values.{IsRow}
 use Rattle.txc_rows.specs.States.{RowValue, State, IsState, row_before, matches, answer}
 use Rattle.txc_rows.specs.Versions.{row_of, suits, is_visible, visible_rows, IsVersion}
 use Rattle.txc_rows.specs.VersionsAndStates.{VersionsSay}
+use Rattle.txc_rows.proofs.Rising.{lt_trans}
 use Rattle.txc_tags.specs.declared.tag.TheConstants.{LAST_TABLE}
 use Rattle.txc_tags.specs.declared.text.number.TheConstants.{LAST_NUMBER}
+use Rattle.txc_tags.proofs.All.{all-filter, all_weaker}
 use Rattle.txc_db.specs.DatabaseValue.{DatabaseValue, IsSound, newest, newest_state}
 use Rattle.txc_db.specs.Calls.{matching_of}
 use Rattle.txc_db_carry.specs.Carry.{stands_before}
 
 -- ---- one row
-
-down : (a b c d t f : ℕ) → nat_lt a c || ((a == c) && nat_lt b d) ≡ true → nat_lt c t || ((c == t) && nat_lt d f) ≡ true → nat_lt a t || ((a == t) && nat_lt b f) ≡ true
-down a b c d t f h k = grind (arith, nat_tests)
 
 still : (a b t f l : ℕ) → f ≤ l → nat_lt a t || ((a == t) && nat_lt b f) ≡ true → nat_lt a t || ((a == t) && nat_lt b l) ≡ true
 still a b t f l le h = grind (arith, nat_tests)
@@ -65,15 +64,6 @@ none_first a b = grind (arith, nat_tests)
 
 -- ---- lists
 
-pub all_in : {X : Type 0} (P : X → Type 0) (x : X) (xs : List X) → AllByRecursion P xs → IsIn x xs → P x
-all_in P x [] a h = absurd h
-all_in P x (y ∷ ys) a (inl same) = subst P (sym same) a.0
-all_in P x (y ∷ ys) a (inr later) = all_in P x ys a.1 later
-
-pub all_to : {X : Type 0} (P Q : X → Type 0) (xs : List X) → ((x : X) → P x → Q x) → AllByRecursion P xs → AllByRecursion Q xs
-all_to P Q [] to a = tt
-all_to P Q (x ∷ xs) to a = (to x a.0, all_to P Q xs to a.1)
-
 pub filter_none : {X : Type 0} (p : X → Bool) (xs : List X) → AllByRecursion (λ x. p x ≡ false) xs → filter p xs ≡ []
 filter_none p [] h = refl
 filter_none p (x ∷ xs) h = rw h.0 (filter_none p xs h.1)
@@ -85,10 +75,6 @@ every_in p (x ∷ xs) h = rw (h x (inl refl)) (ap (λ ys. x ∷ ys) (every_in p 
 none_at_all : {X : Type 0} (p : X → Bool) (xs : List X) → ((x : X) → p x ≡ false) → filter p xs ≡ []
 none_at_all p [] h = refl
 none_at_all p (x ∷ xs) h = rw (h x) (none_at_all p xs h)
-
-pub length_filter : {X : Type 0} (p : X → Bool) (xs : List X) → length (filter p xs) ≤ length xs
-length_filter p [] = omega arith
-length_filter p (x ∷ xs) = let rest = length_filter p xs in elim (p x) as (λ b. length (cond b (x ∷ filter p xs) (filter p xs)) ≤ length (x ∷ xs)) [ true ↦ omega (arith, rest) | false ↦ omega (arith, rest) ]
 
 -- ---- the rows before a place and those of the range behind it
 
@@ -125,7 +111,7 @@ range_joined t f l le s h =
     (λ r within. still r.table r.id t f (l + 1) (omega (arith, le)) within)
     (λ r within. off_range r.table r.id t f l within)
     (λ r beyond. both_ways _ _ (in_range r.table r.id t f l beyond) (from_range r.table r.id t f l))
-    (λ r x before within. down r.table r.id x.table x.id t f before within)
+    (λ r x before within. lt_trans r.table r.id x.table x.id t f before within)
     s h
 
 pub before_more : (t f l : ℕ) → f ≤ l → (r : RowValue) → stands_before t f r ≡ true → stands_before t l r ≡ true
@@ -144,16 +130,12 @@ visible_in r [] h a = absurd h
 visible_in r (v ∷ vs) (inl same) a = subst IsRow (sym same) a.0.row
 visible_in r (v ∷ vs) (inr later) a = visible_in r vs later a.1
 
-all_left : {X : Type 0} (P : X → Type 0) (p : X → Bool) (xs : List X) → AllByRecursion P xs → AllByRecursion P (filter p xs)
-all_left P p [] a = tt
-all_left P p (x ∷ xs) a = let rest = all_left P p xs a.1 in elim (p x) as (λ b. AllByRecursion P (cond b (x ∷ filter p xs) (filter p xs))) [ true ↦ (a.0, rest) | false ↦ rest ]
-
 -- the rows of the newest state are rows
 pub state_row : (d : DatabaseValue) → IsSound d → (r : RowValue) → IsIn r (newest_state d) → IsRow r
 state_row d sound r h =
     let says : VersionsSay (newest d) d.versions (newest_state d) = sound.kept.says.kept (newest d) sound.kept.kept (omega arith) in
     let seen : IsIn r (visible_rows (newest d) d.versions) = is_in (visible_rows (newest d) d.versions) r (says.each r (contains_it (newest_state d) r h)) in
-    visible_in r (filter (is_visible (newest d)) d.versions) seen (all_left IsVersion (is_visible (newest d)) d.versions sound.kept.versions.each)
+    visible_in r (filter (is_visible (newest d)) d.versions) seen (all-filter IsVersion (is_visible (newest d)) d.versions sound.kept.versions.each)
 
 pub table_done : (d : DatabaseValue) → IsSound d → (t : ℕ) → filter (stands_before t (LAST_NUMBER + 1)) (newest_state d) ≡ filter (stands_before (t + 1) 0) (newest_state d)
 table_done d sound t =
@@ -171,7 +153,7 @@ all_before d sound = every_in (stands_before (LAST_TABLE + 1) 0) (newest_state d
 
 -- none of the versions before a place is of a row from there on
 pub none_matching : (t f i : ℕ) → f ≤ i → (vs : List Versioned) → AllByRecursion (λ v. stands_before t f v.row ≡ true) vs → filter (suits (ById t i)) vs ≡ []
-none_matching t f i le vs a = filter_none (suits (ById t i)) vs (all_to (λ v. stands_before t f v.row ≡ true) (λ v. suits (ById t i) v ≡ false) vs (λ v h. off_id v.row.table v.row.id t f i le h) a)
+none_matching t f i le vs a = filter_none (suits (ById t i)) vs (all_weaker (λ v. stands_before t f v.row ≡ true) (λ v. suits (ById t i) v ≡ false) (λ v h. off_id v.row.table v.row.id t f i le h) vs a)
 
 pub range_in : (t f l : ℕ) (r : RowValue) → matches (Range t f l) r ≡ true → (r.table ≡ t) × (f ≤ r.id)
 range_in t f l r h = (range_table r.table r.id t f l h, range_first r.table r.id t f l h)

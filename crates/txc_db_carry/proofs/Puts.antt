@@ -1,5 +1,5 @@
 -- What puts of rows make of the newest state, and of the versions.
-use Rattle.std.proofs.Common.{◌≡◌, ◌≢◌, ℕ, suc, List, [], ◌∷◌, ◌++◌, filter, map, length, Bool, true, false, cond, None, refl, sym, ap, ◌∙◌, add-one}
+use Rattle.std.proofs.Common.{◌≡◌, ◌≢◌, ℕ, suc, List, [], ◌∷◌, ◌++◌, map, length, true, false, cond, None, refl, sym, ap, ◌∙◌, add-one}
 use Rattle.std.proofs.lemmas.List.{length_push}
 use Rattle.std.specs.List.{AllByRecursion}
 use Rattle.txc_rows.specs.declared.query.Change.{Change}
@@ -13,6 +13,7 @@ use Rattle.txc_db.specs.Facts.{EventValue}
 use Rattle.txc_db.specs.History.{History, state_at, commit_event}
 use Rattle.txc_db.specs.DatabaseValue.{DatabaseValue, newest, newest_state, newest_net, where_some, after_event_of, after_commit}
 use Rattle.txc_db.proofs.Histories.{is_state, state_pushed}
+use Rattle.txc_tags.proofs.All.{all-filter, all-append}
 
 -- ---- a commit
 
@@ -59,24 +60,16 @@ all_settled : (Q : Change → Type 0) (cs : List Change) → AllByRecursion Q cs
 all_settled Q [] a = tt
 all_settled Q (c ∷ cs) a = all_placed Q c (settled cs) a.0 (all_settled Q cs a.1)
 
-all_kept : {X : Type 0} (Q : X → Type 0) (p : X → Bool) (xs : List X) → AllByRecursion Q xs → AllByRecursion Q (filter p xs)
-all_kept Q p [] a = tt
-all_kept Q p (x ∷ xs) a = let rest = all_kept Q p xs a.1 in elim (p x) as (λ b. AllByRecursion Q (cond b (x ∷ filter p xs) (filter p xs))) [ true ↦ (a.0, rest) | false ↦ rest ]
-
 pub all_net : (Q : Change → Type 0) (s : State) (cs : List Change) → AllByRecursion Q cs → AllByRecursion Q (net_changes s cs)
-all_net Q s cs a = all_kept Q (changes_state s) (settled cs) (all_settled Q cs a)
+all_net Q s cs a = all-filter Q (changes_state s) (settled cs) (all_settled Q cs a)
 
 module _ (P : RowValue → Type 0) where
   all_closed : (t i stamp : ℕ) (vs : List Versioned) → AllByRecursion (λ v. P v.row) vs → AllByRecursion (λ v. P v.row) (removed t i stamp vs)
   all_closed t i stamp [] a = tt
   all_closed t i stamp (v ∷ vs) a = (a.0, all_closed t i stamp vs a.1)
 
-  all_more : (vs : List Versioned) (v : Versioned) → AllByRecursion (λ w. P w.row) vs → P v.row → AllByRecursion (λ w. P w.row) (vs ++ v ∷ [])
-  all_more [] v a p = (p, tt)
-  all_more (w ∷ ws) v a p = (a.0, all_more ws v a.1 p)
-
   all_write : (stamp : ℕ) (c : Change) (vs : List Versioned) → Puts P c → AllByRecursion (λ v. P v.row) vs → AllByRecursion (λ v. P v.row) (after_write stamp c vs)
-  all_write stamp (Put row) vs p a = all_more (removed row.table row.id stamp vs) (record { row = row; born = stamp; died = None }) (all_closed row.table row.id stamp vs a) p
+  all_write stamp (Put row) vs p a = all-append (λ v. P v.row) (removed row.table row.id stamp vs) (record { row = row; born = stamp; died = None } ∷ []) (all_closed row.table row.id stamp vs a) (p, tt)
   all_write stamp (Remove table id) vs p a = all_closed table id stamp vs a
 
   pub all_written : (stamp : ℕ) (net : List Change) (vs : List Versioned) → AllByRecursion (Puts P) net → AllByRecursion (λ v. P v.row) vs → AllByRecursion (λ v. P v.row) (after_net stamp net vs)

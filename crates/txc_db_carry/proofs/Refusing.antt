@@ -1,8 +1,7 @@
 -- A commit that read nothing, and results of calls.
-use Rattle.std.proofs.Common.{◌≡◌, ℕ, List, [], ◌∷◌, Bool, true, false, refl, arith}
+use Rattle.std.proofs.Common.{◌≡◌, ℕ, [], Bool, true, false, refl, arith}
 use Rattle.std.specs.Prelude.{Result, Ok, Err, OnOk}
-use Rattle.txc_tags.specs.declared.tag.Tag.{Tag}
-use Rattle.txc_tags.specs.Tags.{sets_match}
+use Rattle.txc_tags.proofs.Merging.{match_nothing}
 use Rattle.txc_db.specs.declared.error.DbError.{DbError}
 use Rattle.txc_db.specs.declared.error.DbError.TheVariants.{Broken}
 use Rattle.txc_db.specs.History.{tags_at}
@@ -14,17 +13,13 @@ use Rattle.txc_db_carry.specs.declared.error.CarryError.{CarryError}
 use Rattle.txc_db_carry.specs.declared.error.CarryError.TheVariants.{Old}
 use Rattle.txc_db_carry.specs.Carry.{IsCarryRefused, IsCarryStepRefused}
 
-pub none_matches : (xs : List Tag) → sets_match xs [] ≡ false
-none_matches [] = refl
-none_matches (x ∷ xs) = none_matches xs
-
 -- where the horizon is 0, the tags of each event are kept
 all_kept : (name : Name) (horizon : ℕ) → horizon ≡ 0 → AreTagsKept name horizon 0
 all_kept (stored cells) horizon none = tt
 all_kept (unstored number) horizon none = omega (arith, none)
 
 pub nothing_read : (d : DatabaseValue) → d.broken ≡ false → d.horizon ≡ 0 → IsUnread d 0 []
-nothing_read d whole none = record { whole = whole; known = omega arith; kept = all_kept d.events d.horizon none; apart = λ e after within. none_matches (tags_at d.history e) }
+nothing_read d whole none = record { whole = whole; known = omega arith; kept = all_kept d.events d.horizon none; apart = λ e after within. match_nothing (tags_at d.history e) }
 
 -- ---- results
 

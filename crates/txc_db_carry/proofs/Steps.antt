@@ -8,6 +8,8 @@ use Rattle.txc_tags.specs.Tags.{sets_match}
 use Rattle.txc_tags.specs.declared.tag.TheConstants.{LAST_TABLE}
 use Rattle.txc_tags.specs.declared.text.number.TheConstants.{LAST_NUMBER}
 use Rattle.txc_tags.proofs.Lists.{bool_cases, IsIn}
+use Rattle.txc_tags.proofs.Merging.{match_nothing}
+use Rattle.txc_tags.proofs.All.{all_weaker}
 use Rattle.txc_rows.proofs.Offered.{is_in, filter_state, puts_append}
 use Rattle.txc_rows.specs.declared.query.Query.{Query}
 use Rattle.txc_rows.specs.declared.query.Query.TheVariants.{ById, Range}
@@ -18,6 +20,7 @@ use Rattle.txc_rows.specs.declared.version.Versioned.{Versioned}
 use Rattle.txc_rows.specs.States.{RowValue, State, IsState, matches, answer}
 use Rattle.txc_rows.specs.Versions.{suits}
 use Rattle.txc_rows.specs.Laws.{ChangedIsState, NetTransition}
+use Rattle.txc_rows.proofs.Members.{few_left}
 use Rattle.txc_db.specs.declared.error.DbError.{DbError}
 use Rattle.txc_db.specs.declared.error.DbError.TheVariants.{SnapshotGone, Conflict, Full, Store, Broken, FutureStamp, Memory}
 use Rattle.txc_db.specs.Room.{events_room, AreTagsGone}
@@ -27,8 +30,7 @@ use Rattle.txc_db.specs.Calls.{matching_of, row_query, IsCommitRefused, IsQueryR
 use Rattle.txc_db.proofs.Histories.{is_state}
 use Rattle.txc_db_carry.specs.Carry.{stands_before, HasCarried, IsReadRefusal, IsPutRefusal}
 use Rattle.txc_db_carry.specs.Rooms.{IsHistoryFor, room_for}
-use Rattle.txc_db_carry.proofs.Places.{all_to, length_filter, range_joined, before_more, range_before, none_before, table_done, version_done, all_before, none_matching, range_in, one_matching}
-use Rattle.txc_db_carry.proofs.Refusing.{none_matches}
+use Rattle.txc_db_carry.proofs.Places.{range_joined, before_more, range_before, none_before, table_done, version_done, all_before, none_matching, range_in, one_matching}
 use Rattle.txc_db_carry.proofs.Puts.{after_either, commit_state, Puts, all_net, all_written, all_puts}
 
 -- ---- histories
@@ -68,7 +70,7 @@ table_carried old new events t sound h = record {
   horizon = h.horizon;
   holds = h.holds;
   rows = h.rows ∙ table_done old sound t;
-  versions = all_to (λ v. stands_before t (LAST_NUMBER + 1) v.row ≡ true) (λ v. stands_before (t + 1) 0 v.row ≡ true) new.versions (λ v k. version_done t (LAST_NUMBER + 1) v.row k) h.versions;
+  versions = all_weaker (λ v. stands_before t (LAST_NUMBER + 1) v.row ≡ true) (λ v. stands_before (t + 1) 0 v.row ≡ true) (λ v k. version_done t (LAST_NUMBER + 1) v.row k) new.versions h.versions;
   few = h.few;
 }
 
@@ -104,7 +106,7 @@ module _ (old new : DatabaseValue) (events : Name) (t f l : ℕ) (rows : List Ro
   new_state transition = commit_state new (map Put rows) changed transition ∙ puts_append rows (newest_state new) (subst IsState (sym whole_state) (filter_state (stands_before t (l + 1)) (newest_state old) (is_state changed old.history (newest old))))
 
   moved : AllByRecursion (λ v. stands_before t (l + 1) v.row ≡ true) new.versions
-  moved = all_to (λ v. stands_before t f v.row ≡ true) (λ v. stands_before t (l + 1) v.row ≡ true) new.versions (λ v k. before_more t f (l + 1) (omega (arith, le)) v.row k) h.versions
+  moved = all_weaker (λ v. stands_before t f v.row ≡ true) (λ v. stands_before t (l + 1) v.row ≡ true) (λ v k. before_more t f (l + 1) (omega (arith, le)) v.row k) new.versions h.versions
 
   put_versions : AllByRecursion (λ v. stands_before t (l + 1) v.row ≡ true) (after_commit new (map Put rows)).versions
   put_versions =
@@ -147,7 +149,7 @@ module _ (old new : DatabaseValue) (events : Name) (t f l : ℕ) (rows : List Ro
   put_one c (r ∷ rs) (inr later) a = put_one c rs later a.1
 
   no_match : (xs : List Tag) → sets_match xs [] ≡ true → ⊥
-  no_match xs e = true≢false (sym e ∙ none_matches xs)
+  no_match xs e = true≢false (sym e ∙ match_nothing xs)
 
   pub put_refused : (e : DbError) → IsCommitRefused new 0 [] (map Put rows) e → IsPutRefusal old (events_room new.events) e
   put_refused Full r =
@@ -155,7 +157,7 @@ module _ (old new : DatabaseValue) (events : Name) (t f l : ℕ) (rows : List Ro
       let full : newest new ≡ events_room new.events = r.full in
       let few : newest new ≤ length (newest_state new) = h.few in
       let whole : length (newest_state new ++ rows) ≡ length (filter (stands_before t (l + 1)) (newest_state old)) = ap (λ (s : State). length s) whole_state in
-      omega (arith, some, full, few, whole, length-append (newest_state new) rows, length_filter (stands_before t (l + 1)) (newest_state old))
+      omega (arith, some, full, few, whole, length-append (newest_state new) rows, few_left (stands_before t (l + 1)) (newest_state old))
   put_refused (Store store.TooManyRows) r =
       let it = r.1 in
       let none = put_one it.0 rows (is_in (map Put rows) it.0 it.1) (all_rows (λ x. matching_of new (row_query (Put x)) ≡ 0) none_kept) in

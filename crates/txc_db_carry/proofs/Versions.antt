@@ -3,6 +3,7 @@ use Rattle.std.proofs.Common.{◌≡◌, inl, inr, ℕ, ◌≤◌, List, [], ◌
 use Rattle.std.proofs.lemmas.Bool.Decides.{nat_tests}
 use Rattle.std.specs.List.{AllByRecursion}
 use Rattle.txc_tags.proofs.Lists.{bool_cases, IsIn, from_filter}
+use Rattle.txc_tags.proofs.All.{all_in}
 use Rattle.txc_rows.specs.declared.query.Query.TheVariants.{ById}
 use Rattle.txc_rows.specs.declared.version.Versioned.{Versioned}
 use Rattle.txc_rows.specs.Versions.{suits, died_by, has_died_by, purged, Follows, Pairwise}
@@ -11,7 +12,7 @@ use Rattle.txc_db.specs.Calls.{matching_of}
 use Rattle.txc_db_carry.specs.declared.error.CarryError.{CarryError}
 use Rattle.txc_db_carry.specs.declared.error.CarryError.TheVariants.{Old, TooManyVersions, New}
 use Rattle.txc_db_carry.specs.Carry.{IsCarryStepRefused, IsNotTooMany}
-use Rattle.txc_db_carry.proofs.Places.{all_in, filter_none}
+use Rattle.txc_db_carry.proofs.Places.{filter_none}
 
 off_test : (n h : ℕ) → n ≤ h → not (nat_le n h) ≡ true → ⊥
 off_test n h le e = grind (arith, nat_tests)
@@ -24,7 +25,7 @@ same_id a b c d t i h k = grind (arith, nat_tests)
 
 never_died : (d : DatabaseValue) → IsSound d → d.horizon ≡ newest d → (v : Versioned) → IsIn v d.versions → (n : ℕ) → v.died ≡ Some n → ⊥
 never_died d sound at v k n e =
-    let upto = all_in (λ w. (w.born ≤ newest d) × ((m : ℕ) → w.died ≡ Some m → m ≤ newest d)) v d.versions sound.kept.says.upto k in
+    let upto = all_in (λ w. (w.born ≤ newest d) × ((m : ℕ) → w.died ≡ Some m → m ≤ newest d)) d.versions v sound.kept.says.upto k in
     let late : n ≤ newest d = upto.1 n e in
     let stands : IsIn v (purged d.horizon d.versions) = subst (λ vs. IsIn v vs) (sym sound.kept.clean) k in
     let lives : not (has_died_by d.horizon v) ≡ true = (from_filter (λ w. not (has_died_by d.horizon w)) v d.versions stands).1 in

@@ -5,6 +5,7 @@ use Rattle.std.proofs.lemmas.Bool.Decides.{same_from_decides, Decides-like, Deci
 use Rattle.txc_tags.specs.Keys.{Call, same_call}
 use Rattle.txc_tags.proofs.Offered.{same_call_itself, same_call_iff}
 use Rattle.txc_tags.specs.declared.tag.Tag.{Tag}
+use Rattle.txc_tags.proofs.All.{all-filter, all-take}
 use Rattle.txc_stamp.specs.Interval.{closed_at}
 use Rattle.txc_node.specs.declared.entry.Entry.{Entry}
 use Rattle.txc_node.specs.Entries.{same_place, others, AreApart}
@@ -49,16 +50,10 @@ remove_is_others (e ∷ es) (suc i) d l h =
 
 -- ---- what stays apart
 
-pub filter_keeps : (P : Entry → Type 0) (test : Entry → Bool) (es : List Entry) → AllByRecursion P es → AllByRecursion P (filter test es)
-filter_keeps P test [] h = tt
-filter_keeps P test (e ∷ es) h =
-    let go : (b : Bool) → AllByRecursion P (cond b (e ∷ filter test es) (filter test es)) = λ b. elim b as (λ v. AllByRecursion P (cond v (e ∷ filter test es) (filter test es))) [ true ↦ (h.0, filter_keeps P test es h.1) | false ↦ filter_keeps P test es h.1 ] in
-    go (test e)
-
 pub filter_apart : (test : Entry → Bool) (es : List Entry) → AreApart es → AreApart (filter test es)
 filter_apart test [] h = tt
 filter_apart test (e ∷ es) h =
-    let go : (b : Bool) → AreApart (cond b (e ∷ filter test es) (filter test es)) = λ b. elim b as (λ v. AreApart (cond v (e ∷ filter test es) (filter test es))) [ true ↦ (filter_keeps (λ o. same_place o e ≡ false) test es h.0, filter_apart test es h.1) | false ↦ filter_apart test es h.1 ] in
+    let go : (b : Bool) → AreApart (cond b (e ∷ filter test es) (filter test es)) = λ b. elim b as (λ v. AreApart (cond v (e ∷ filter test es) (filter test es))) [ true ↦ (all-filter (λ o. same_place o e ≡ false) test es h.0, filter_apart test es h.1) | false ↦ filter_apart test es h.1 ] in
     go (test e)
 
 pub others_elsewhere : (e : Entry) (es : List Entry) → AllByRecursion (λ o. same_place o e ≡ false) (others e es)
@@ -71,15 +66,10 @@ others_elsewhere e (x ∷ es) =
 pub first_apart : (e : Entry) (es : List Entry) → AreApart es → AreApart (e ∷ others e es)
 first_apart e es h = (others_elsewhere e es, filter_apart (λ o. not (same_place o e)) es h)
 
-pub take_keeps : (P : Entry → Type 0) (n : ℕ) (es : List Entry) → AllByRecursion P es → AllByRecursion P (take n es)
-take_keeps P zero es h = tt
-take_keeps P (suc n) [] h = tt
-take_keeps P (suc n) (e ∷ es) h = (h.0, take_keeps P n es h.1)
-
 pub take_apart : (n : ℕ) (es : List Entry) → AreApart es → AreApart (take n es)
 take_apart zero es h = tt
 take_apart (suc n) [] h = tt
-take_apart (suc n) (e ∷ es) h = (take_keeps (λ o. same_place o e ≡ false) n es h.0, take_apart n es h.1)
+take_apart (suc n) (e ∷ es) h = (all-take (λ o. same_place o e ≡ false) n es h.0, take_apart n es h.1)
 
 pub after_left : (stamp : ℕ) (tags : List Tag) (e o : Entry) → same_place (entry_after stamp tags e) o ≡ same_place e o
 after_left stamp tags e o =

@@ -7,13 +7,14 @@ use Rattle.lru.specs.LruCache.{promoted}
 use Rattle.txc_stamp.specs.Interval.{Interval}
 use Rattle.txc_tags.specs.Keys.{Call, same_call}
 use Rattle.txc_tags.proofs.Offered.{same_call_is}
+use Rattle.txc_tags.proofs.All.{all-filter}
 use Rattle.txc_node.specs.declared.entry.Entry.{Entry}
 use Rattle.txc_node.specs.declared.place.Place.{Place}
 use Rattle.txc_node.specs.declared.stored.Stored.{Stored}
 use Rattle.txc_node.specs.Places.{place_of, place_at, equal_places}
 use Rattle.txc_node.specs.Entries.{same_place, others, AreApart}
 use Rattle.txc_node.specs.IndexedEntries.{entry_of, entries_of, entry_at, ArePlaced, AreTied, entries_under, reaches_under, listed, IndexesKeys, Relists}
-use Rattle.txc_node.proofs.Apart.{filter_keeps, first_apart, same_place_self}
+use Rattle.txc_node.proofs.Apart.{first_apart, same_place_self}
 use Rattle.txc_node.proofs.KeyLists.{all_under, brought_first}
 use Rattle.txc_node.proofs.Pairs.{pair_of, promoted_is, promoted_keeps}
 
@@ -25,7 +26,7 @@ all_at P (y ∷ ys) zero x h at = let at' : Some y ≡ Some x = at in let same :
 all_at P (y ∷ ys) (suc i) x h at = all_at P ys i x h.1 at
 
 pub holds_under : (P : Entry → Type 0) (key : Call) (es : List Entry) (at : ℕ) (e : Entry) → AllByRecursion P es → slice_get (entries_under key es) at ≡ Some e → P e
-holds_under P key es at e h is = all_at P (entries_under key es) at e (filter_keeps P (λ o. same_call o.key key) es h) is
+holds_under P key es at e h is = all_at P (entries_under key es) at e (all-filter P (λ o. same_call o.key key) es h) is
 
 pub key_at : (key : Call) (es : List Entry) (at : ℕ) (e : Entry) → slice_get (entries_under key es) at ≡ Some e → e.key ≡ key
 key_at key es at e is = same_call_is e.key key (all_at (λ o. same_call o.key key ≡ true) (entries_under key es) at e (all_under key es) is)

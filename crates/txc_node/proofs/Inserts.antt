@@ -43,7 +43,7 @@ nowhere p (e ∷ es) h =
     let l : suc (length es) ≤ cond (not (p e)) (1 + rest) 0 = h in
     go (p e) refl (omega (arith, l))
 
-at_end : (a b : ℕ) → cond (ltb a b) (Some a) None ≡ None → b ≤ a
+pub at_end : (a b : ℕ) → cond (ltb a b) (Some a) None ≡ None → b ≤ a
 at_end a b h = grind (arith, nat_tests)
 
 pub position_none : {X : Type 0} (p : X → Bool) (es : List X) → position p es ≡ None → AllByRecursion (λ o. p o ≡ false) es

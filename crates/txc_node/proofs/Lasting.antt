@@ -8,17 +8,13 @@ use Rattle.indexmap.specs.IndexMap.{set_value_at}
 use Rattle.txc_stamp.specs.Interval.{Interval}
 use Rattle.txc_tags.specs.Keys.{Call, same_call}
 use Rattle.txc_tags.proofs.Offered.{same_call_is, same_call_itself}
+use Rattle.txc_tags.proofs.All.{all-take}
 use Rattle.txc_node.specs.IndexedEntries.{listed}
 use Rattle.txc_node.specs.Sweep.{ends_by, lasting, AreAllLasting}
 
 -- ---- lists
 
 module _ {X : Type 0} (P : X → Type 0) where
-  all_of_take : (n : ℕ) (xs : List X) → AllByRecursion P xs → AllByRecursion P (take n xs)
-  all_of_take zero xs h = tt
-  all_of_take (suc n) [] h = tt
-  all_of_take (suc n) (x ∷ xs) h = (h.0, all_of_take n xs h.1)
-
   all_of_index : (xs : List X) (n : ℕ) (d : X) → n < length xs → AllByRecursion P xs → P (get_or xs n d)
   all_of_index [] n d l h = absurd (omega arith)
   all_of_index (x ∷ xs) zero d l h = h.0
@@ -32,7 +28,7 @@ module _ {X : Type 0} (P : X → Type 0) where
   all_from_swapped (x ∷ []) (suc i) d h = tt
   all_from_swapped (x ∷ y ∷ ys) zero d h =
       let n : suc (suc (length ys)) - 1 ≡ suc (length ys) = omega arith in
-      subst (λ k. AllByRecursion P (take k (get_or (x ∷ y ∷ ys) k d ∷ y ∷ ys))) (sym n) (all_of_index (y ∷ ys) (length ys) d (omega arith) h, all_of_take (length ys) (y ∷ ys) h)
+      subst (λ k. AllByRecursion P (take k (get_or (x ∷ y ∷ ys) k d ∷ y ∷ ys))) (sym n) (all_of_index (y ∷ ys) (length ys) d (omega arith) h, all-take P (length ys) (y ∷ ys) h)
   all_from_swapped (x ∷ y ∷ ys) (suc i) d h =
       let n : suc (suc (length ys)) - 1 ≡ suc (suc (length ys) - 1) = omega arith in
       subst (λ k. AllByRecursion P (drop (suc i) (take k (x ∷ set (y ∷ ys) i (get_or (x ∷ y ∷ ys) k d))))) (sym n) (all_from_swapped (y ∷ ys) i d h)

@@ -1,9 +1,9 @@
 -- The entry that stands last.
 use Rattle.std.proofs.Common.{◌≡◌, ℕ, ◌-◌, false, List, [], ◌∷◌, ◌++◌, length, take, Some, None, refl, ap, subst, ◌∙◌, arith, suc, zero, length-append}
 use Rattle.std.specs.Prelude.{slice_get}
-use Rattle.std.specs.List.{AllByRecursion}
 use Rattle.txc_stamp.specs.Interval.{Interval}
 use Rattle.txc_tags.specs.Keys.{Call}
+use Rattle.txc_tags.proofs.All.{all_front}
 use Rattle.txc_node.specs.declared.entry.Entry.{Entry}
 use Rattle.txc_node.specs.declared.place.Place.{Place}
 use Rattle.txc_node.specs.declared.stored.Stored.{Stored}
@@ -31,13 +31,9 @@ pub entries_last : (ps : List (Place × Stored)) (x : Place × Stored) → entri
 entries_last [] x = refl
 entries_last (y ∷ ps) x = ap (λ es. entry_of y ∷ es) (entries_last ps x)
 
-all_front : {X : Type 0} (P : X → Type 0) (xs : List X) (x : X) → AllByRecursion P (xs ++ x ∷ []) → AllByRecursion P xs
-all_front P [] x h = tt
-all_front P (y ∷ xs) x h = (h.0, all_front P xs x h.1)
-
 pub front_apart : (es : List Entry) (e : Entry) → AreApart (es ++ e ∷ []) → AreApart es
 front_apart [] e h = tt
-front_apart (y ∷ es) e h = (all_front (λ o. same_place o y ≡ false) es e h.0, front_apart es e h.1)
+front_apart (y ∷ es) e h = (all_front (λ o. same_place o y ≡ false) es (e ∷ []) h.0, front_apart es e h.1)
 
 -- ---- the last entry is dropped
 
@@ -52,7 +48,7 @@ dropped_tied front x index new h relists =
     let reaches : take (length (listed index e.key) - 1) (listed index e.key) ≡ reaches_under e.key es =
     ap (λ (rs : List Interval). take (length rs - 1) rs) (reaches_last index es e indexed) ∙ take_init (reaches_under e.key es) e.reach in
     record {
-      placed = all_front (λ p. p.0 ≡ place_of (entry_of p)) front x h.placed;
+      placed = all_front (λ p. p.0 ≡ place_of (entry_of p)) front (x ∷ []) h.placed;
       apart = front_apart es e apart;
       keys = dropped_last index new es e indexed (subst (λ (rs : List Interval). Relists e.key rs index new) reaches relists);
     }

@@ -1,43 +1,32 @@
 -- What the index of the tags lists, as the entries change.
-use Rattle.std.proofs.Common.{◌≡◌, ◌≤◌, Bool, true, false, not, ◌||◌, cond, eqb, List, [], ◌∷◌, length, take, ℕ, suc, zero, Some, None, refl, sym, ap, subst, ◌∙◌, arith}
+use Rattle.std.proofs.Common.{◌≡◌, ◌≤◌, Bool, true, false, not, ◌||◌, cond, List, [], ◌∷◌, length, take, ℕ, suc, zero, Some, None, refl, sym, ap, subst, ◌∙◌, arith}
 use Rattle.std.specs.Prelude.{Option, IfSome, slice_get}
 use Rattle.std.specs.List.{AllByRecursion, find}
 use Rattle.std.specs.Option.{option_map}
-use Rattle.std.proofs.lemmas.Bool.{false≢true}
+use Rattle.std.proofs.lemmas.Bool.{false≢true, or_right}
 use Rattle.std.specs.HashMap.{HashMap}
-use borrow.Author.Tests.{eq-eqb}
 use Rattle.txc_tags.specs.declared.tag.Rows.{Rows}
-use Rattle.txc_tags.specs.declared.tag.Rows.TheVariants.{All, Id, Group}
 use Rattle.txc_tags.specs.declared.tag.Tag.{Tag}
-use Rattle.txc_tags.specs.Tags.{same_rows, same_tag, has_tag}
+use Rattle.txc_tags.specs.Tags.{same_tag, has_tag}
 use Rattle.txc_tags.specs.Keys.{Call}
-use Rattle.txc_tags.proofs.Offered.{and_true}
+use Rattle.txc_tags.proofs.TagOrder.{same_itself}
+use Rattle.txc_tags.proofs.All.{all-filter}
 use Rattle.txc_node.specs.declared.entry.Entry.{Entry}
 use Rattle.txc_node.specs.declared.place.Place.{Place}
 use Rattle.txc_node.specs.declared.stored.Stored.{Stored}
 use Rattle.txc_node.specs.Places.{place_of, equal_places, equal_places_is}
 use Rattle.txc_node.specs.Entries.{same_place, others, AreApart}
 use Rattle.txc_node.specs.IndexedEntries.{entry_at, stored_of, entries_under, lists, IsListed, IndexesTags, KeepsListed, with_first}
-use Rattle.txc_node.proofs.Apart.{filter_keeps}
 use Rattle.txc_node.proofs.Fronts.{all_at, found_self, holds_under}
-
-same_tag_itself : (t : Tag) → same_tag t t ≡ true
-same_tag_itself t =
-    let rows : (r : Rows) → same_rows r r ≡ true = λ r. elim r as (λ x. same_rows x x ≡ true) [ All ↦ refl | Id n ↦ eq-eqb n n refl | Group n ↦ eq-eqb n n refl ] in
-    and_true (eqb t.table t.table) (same_rows t.rows t.rows) (eq-eqb t.table t.table refl) (rows t.rows)
-
-or_later : (a b : Bool) → b ≡ true → (a || b) ≡ true
-or_later true b h = refl
-or_later false b h = h
 
 has_more : (u : Tag) (us ts : List Tag) → AllByRecursion (λ t. has_tag us t ≡ true) ts → AllByRecursion (λ t. has_tag (u ∷ us) t ≡ true) ts
 has_more u us [] h = tt
-has_more u us (t ∷ ts) h = (or_later (same_tag t u) (has_tag us t) h.0, has_more u us ts h.1)
+has_more u us (t ∷ ts) h = (or_right (same_tag t u) (has_tag us t) h.0, has_more u us ts h.1)
 
 -- a set has each of its tags
 own_tags : (ts : List Tag) → AllByRecursion (λ t. has_tag ts t ≡ true) ts
 own_tags [] = tt
-own_tags (t ∷ ts) = (ap (λ b. b || has_tag ts t) (same_tag_itself t), has_more t ts ts (own_tags ts))
+own_tags (t ∷ ts) = (ap (λ b. b || has_tag ts t) (same_itself t), has_more t ts ts (own_tags ts))
 
 module _ {S : Type 0} (tables new : List (HashMap Rows (List Place) S)) where
   pub kept_tags : (q : Place) (ts : List Tag) → ((t : Tag) → lists tables t q ≡ true → lists new t q ≡ true) → AllByRecursion (λ t. lists tables t q ≡ true) ts → AllByRecursion (λ t. lists new t q ≡ true) ts
@@ -70,13 +59,13 @@ module _ {S : Type 0} (tables new : List (HashMap Rows (List Place) S)) where
 
   -- a new entry that was listed goes first
   pub first_listed : (e : Entry) (q : Place) (es : List Entry) → q ≡ place_of e → KeepsListed (λ t q. Unit {0}) tables new → IsListed new q (stored_of e) → IndexesTags tables es → IndexesTags new (with_first e es)
-  first_listed e q es at keeps own h = (subst (λ (p : Place). IsListed new p (stored_of e)) at own, filter_keeps (λ o. IsListed new (place_of o) (stored_of o)) (λ o. not (same_place o e)) es (listed_more es keeps h))
+  first_listed e q es at keeps own h = (subst (λ (p : Place). IsListed new p (stored_of e)) at own, all-filter (λ o. IsListed new (place_of o) (stored_of o)) (λ o. not (same_place o e)) es (listed_more es keeps h))
 
 module _ {S : Type 0} (tables : List (HashMap Rows (List Place) S)) where
   pub brought_listed : (key : Call) (es : List Entry) (at : ℕ) (e : Entry) → slice_get (entries_under key es) at ≡ Some e → IndexesTags tables es → IndexesTags tables (e ∷ others e es)
   brought_listed key es at e is h =
       let P : Entry → Type 0 = λ o. IsListed tables (place_of o) (stored_of o) in
-      (holds_under P key es at e h is, filter_keeps P (λ o. not (same_place o e)) es h)
+      (holds_under P key es at e h is, all-filter P (λ o. not (same_place o e)) es h)
 
 -- what is taken off at the place of one for which there is no room is none of those that stay
 module _ {S : Type 0} (tables new : List (HashMap Rows (List Place) S)) where

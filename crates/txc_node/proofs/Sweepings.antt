@@ -1,7 +1,7 @@
 -- What a sweep takes out, place by place.
 use Rattle.std.proofs.Common.{◌≡◌, ℕ, ◌<◌, ◌+◌, Bool, true, false, not, cond, List, [], ◌∷◌, map, length, Some, None, refl, sym, ap, subst, ◌∙◌, arith, suc}
 use Rattle.std.specs.Prelude.{slice_get, unwrap_or}
-use Rattle.std.specs.List.{AllByRecursion, filter, find, count_by}
+use Rattle.std.specs.List.{AllByRecursion, filter, count_by}
 use Rattle.std.specs.Map.{lookup, remove_entry}
 use Rattle.std.specs.HashMap.{HashMap}
 use Rattle.std.proofs.lemmas.Bool.{false≢true}
@@ -11,6 +11,7 @@ use Rattle.txc_stamp.specs.Interval.{Interval}
 use Rattle.txc_tags.specs.declared.tag.Rows.{Rows}
 use Rattle.txc_tags.specs.Keys.{Call, same_call}
 use Rattle.txc_tags.proofs.Offered.{same_call_is, same_call_itself}
+use Rattle.txc_tags.proofs.All.{all-filter, all_find}
 use Rattle.txc_node.specs.declared.entry.Entry.{Entry}
 use Rattle.txc_node.specs.declared.place.Place.{Place}
 use Rattle.txc_node.specs.declared.stored.Stored.{Stored}
@@ -19,7 +20,7 @@ use Rattle.txc_node.specs.Entries.{AreApart}
 use Rattle.txc_node.specs.Cache.{has_ended}
 use Rattle.txc_node.specs.IndexedEntries.{entry_of, entries_of, entry_at, ArePlaced, AreTied, IndexesKeys, IndexesTags, KeepsListed, entries_under, reaches_under, listed}
 use Rattle.txc_node.specs.Sweep.{AreStored, AreGoneAt, HasReach, IsGone, Sheds, elsewhere, ends_by, lasting}
-use Rattle.txc_node.proofs.Apart.{filter_apart, filter_keeps}
+use Rattle.txc_node.proofs.Apart.{filter_apart}
 use Rattle.txc_node.proofs.Fronts.{found_self}
 use Rattle.txc_node.proofs.KeyLists.{all_under}
 use Rattle.txc_node.proofs.Listed.{kept_tags}
@@ -166,14 +167,7 @@ module _ (p horizon : ℕ) where
   -- an entry at the place of a key and a reach that is listed of it has that reach
   pub listed_have : (index : List (Call × List Interval)) (es : List Entry) → AreApart es → IndexesKeys index es → (key : Call) → AllByRecursion (HasReach es key) (listed index key)
   listed_have index es apart indexed key =
-      subst (AllByRecursion (HasReach es key)) (sym (indexed key)) (own_reaches key es (entries_under key es) (all_under key es) (filter_keeps (λ o. entry_at es (place_of o) ≡ Some o) (λ o. same_call o.key key) es (found_self es apart)))
-
-  found_holds : (Q : Entry → Type 0) (test : Entry → Bool) (es : List Entry) (e : Entry) → AllByRecursion Q es → find test es ≡ Some e → Q e
-  found_holds Q test [] e h is = let none : None ≡ Some e = is in cc
-  found_holds Q test (x ∷ es) e h is = (elim (test x) as (λ b. cond b (Some x) (find test es) ≡ Some e → Q e) [
-    | true ↦ λ is. let here : Some x ≡ Some e = is in let same : x ≡ e = cc in subst Q same h.0
-    | false ↦ λ is. found_holds Q test es e h.1 is
-  ]) is
+      subst (AllByRecursion (HasReach es key)) (sym (indexed key)) (own_reaches key es (entries_under key es) (all_under key es) (all-filter (λ o. entry_at es (place_of o) ≡ Some o) (λ o. same_call o.key key) es (found_self es apart)))
 
   under_reach : (P : Interval → Type 0) (key : Call) (es : List Entry) → AllByRecursion P (reaches_under key es) → AllByRecursion (λ o. same_call o.key key ≡ true → P o.reach) es
   under_reach P key [] h = tt
@@ -191,7 +185,7 @@ module _ (p horizon : ℕ) where
       | true ↦ λ t.
           let P : Interval → Type 0 = IsGone p horizon new x.key in
           let all = under_reach P x.key es (subst (AllByRecursion P) (indexed x.key) (gone x.key)) in
-          let there = found_holds (λ o. same_call o.key x.key ≡ true → P o.reach) (λ o. equal_places (place_of x) (place_of o)) es x all (sheds.stood (place_of x) x stands.0) in
+          let there = all_find (λ o. same_call o.key x.key ≡ true → P o.reach) (λ o. equal_places (place_of x) (place_of o)) es x all (sheds.stood (place_of x) x stands.0) in
           let none : None ≡ Some x = sym (there (same_call_itself x.key) t) ∙ stands.0 in
           cc
       | false ↦ λ t. refl

@@ -5,6 +5,7 @@ use Rattle.std.specs.List.{prefix_len, range_with_len}
 use Rattle.std.proofs.lemmas.Bool.Decides.{nat_tests}
 use Rattle.std.proofs.lemmas.List.Sums.{prefix_len_is}
 use Rattle.std.proofs.lemmas.List.FromFn.{length-range_with_len, get_or-range_with_len}
+use Rattle.std.proofs.lemmas.Bool.{le-leb, leb-true}
 use Rattle.txc_node.specs.declared.entry.Entry.{Entry}
 use Rattle.txc_node.specs.Cache.{Cache, IsCache, IsBounded, bytes_of, fits, staying_count, longest_within, after_trim}
 use Rattle.txc_node.specs.Laws.{TrimKeepsTheFirst}
@@ -25,14 +26,8 @@ prefix_grows (e ∷ es) (suc k) (suc m) h =
     let other = bytes_more e (take m es) in
     omega (arith, rest, one, other)
 
-within_test : (n most : ℕ) → n ≤ most → nat_le n most ≡ true
-within_test n most h = grind (arith, nat_tests)
-
 beyond_test : (n most : ℕ) → most < n → nat_le n most ≡ false
 beyond_test n most h = grind (arith, nat_tests)
-
-is_within : (n most : ℕ) → nat_le n most ≡ true → n ≤ most
-is_within n most h = grind (arith, nat_tests)
 
 is_beyond : (n most : ℕ) → nat_le n most ≡ false → most < n
 is_beyond n most h = grind (arith, nat_tests)
@@ -46,7 +41,7 @@ staying_is most es m few within over =
     (λ k below.
     let at : get_or (range_with_len 1 n) k 0 ≡ 1 + k = get_or-range_with_len 1 n k 0 (omega arith) in
     let less = prefix_grows es (1 + k) m (omega arith) in
-    ap (fits most es) at ∙ within_test (bytes_of (take (1 + k) es)) most (omega (arith, less, within)))
+    ap (fits most es) at ∙ le-leb (bytes_of (take (1 + k) es)) most (omega (arith, less, within)))
     (λ more.
     let at : get_or (range_with_len 1 n) m 0 ≡ m + 1 = get_or-range_with_len 1 n m 0 (omega (arith, more, len)) ∙ omega arith in
     ap (fits most es) at ∙ beyond_test (bytes_of (take (m + 1) es)) most (over (omega (arith, more, len))))
@@ -65,7 +60,7 @@ module _ (p : ℕ → Bool) where
             let bound = rest.2 in
             let next : a + 1 + k ≡ a + (1 + k) = omega arith in (
               λ i l h. (elim (nat_le i a) as (λ v. nat_le i a ≡ v → p i ≡ true) [
-                | true ↦ λ s. let low = is_within i a s in let same : a ≡ i = omega (arith, low, l) in subst (λ (j : ℕ). p j ≡ true) same t
+                | true ↦ λ s. let low = leb-true i a s in let same : a ≡ i = omega (arith, low, l) in subst (λ (j : ℕ). p j ≡ true) same t
                 | false ↦ λ s. let high = is_beyond i a s in rest.0 i (omega (arith, high)) (omega (arith, h))
               ]) refl,
               λ h. subst (λ (j : ℕ). p j ≡ false) next (rest.1 (omega (arith, h))),
@@ -98,7 +93,7 @@ staying_fits most es =
     let k = staying_count most es in
     (elim k as (λ n. k ≡ n → bytes_of (take n es) ≤ most) [
       | zero ↦ λ is. omega arith
-      | suc n ↦ λ is. is_within (bytes_of (take (suc n) es)) most (it.0 (suc n) (omega arith) (omega (arith, is)))
+      | suc n ↦ λ is. leb-true (bytes_of (take (suc n) es)) most (it.0 (suc n) (omega arith) (omega (arith, is)))
     ]) refl
 
 pub trim_keeps_the_first : TrimKeepsTheFirst

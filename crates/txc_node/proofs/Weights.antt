@@ -7,6 +7,7 @@ use Rattle.std.specs.Map.{lookup, lookup_entry, remove_entry, set_value}
 use Rattle.std.proofs.lemmas.List.Sums.{sum_by-cons}
 use Rattle.lru.specs.LruCache.{LruCache, promoted, put_entries, displaced}
 use Rattle.txc_tags.specs.declared.tag.Tag.{Tag}
+use Rattle.txc_tags.proofs.All.{all-take}
 use Rattle.txc_stamp.specs.Interval.{closed_at}
 use Rattle.txc_node.specs.declared.value.TheConstants.{MOST_VALUE_LEN}
 use Rattle.txc_node.specs.declared.entry.Entry.{Entry}
@@ -167,9 +168,7 @@ put_weight c q s within some =
     omega (arith, value, put)
 
 pub taken_short : (n : ℕ) (ps : List (Place × Stored)) → AllByRecursion IsShort ps → AllByRecursion IsShort (take n ps)
-taken_short zero ps h = tt
-taken_short (suc n) [] h = tt
-taken_short (suc n) (x ∷ ps) h = (h.0, taken_short n ps h.1)
+taken_short n ps h = all-take IsShort n ps h
 
 pub removed_short : (test : Place → Bool) (ps : List (Place × Stored)) → AllByRecursion IsShort ps → AllByRecursion IsShort (remove_entry test ps)
 removed_short test ps h = removed_keeps IsShort test ps h

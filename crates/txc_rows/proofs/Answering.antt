@@ -1,5 +1,5 @@
 -- What the queries show of the table.
-use Rattle.std.proofs.Common.{◌≡◌, ℕ, zero, suc, ℤ, Some, take, List, [], ◌∷◌, map, filter, cond, Bool, true, false, refl, sym, ap, subst, ◌∙◌}
+use Rattle.std.proofs.Common.{◌≡◌, ℕ, ℤ, Some, take, List, [], ◌∷◌, map, filter, cond, Bool, true, false, refl, sym, ap, subst, ◌∙◌}
 use Rattle.std.proofs.lemmas.List.{take-map}
 use Rattle.std.proofs.Math.Bool.{and_comm}
 use Rattle.std.specs.List.{AllByRecursion, list_all}
@@ -26,6 +26,7 @@ use Rattle.txc_rows.proofs.Members.{both_true, passing, filtered_both}
 use Rattle.txc_rows.proofs.Commands.{alone, shown_columns, most_shown, listed, shown_names, IsListingOf}
 use Rattle.txc_rows.proofs.StoredRows.{select_stored, is_asked, shown_again, answered, IsPage}
 use Rattle.txc_rows.proofs.SaysLemmas.{of_its_table}
+use Rattle.txc_tags.proofs.All.{all-take}
 
 -- what the query shows, by no order
 abbrev out : Versioned → Output
@@ -85,11 +86,6 @@ of_table q from vs all =
 pub asked_left : (q : Query) (from : ℕ) (vs : List Versioned) → filter (suits q) (left_from from vs) ≡ filter (is_asked q from) vs
 asked_left q from vs = filtered_both (suits q) (is_left from) vs ∙ filter_same _ _ vs (all_of _ (λ v. and_comm (is_left from v) (suits q v)) vs)
 
-all_first : {X : Type 0} (P : X → Type 0) (n : ℕ) (xs : List X) → AllByRecursion P xs → AllByRecursion P (take n xs)
-all_first P zero xs all = tt
-all_first P (suc n) [] all = tt
-all_first P (suc n) (x ∷ xs) all = (all.0, all_first P n xs all.1)
-
 pub listing : (q : Query) (from most : ℕ) (placed : List Placed) (rows : List Row) → AllByRecursion (λ x. IsStorable x.version) placed → Lists (is_asked q from) most (map version_of placed) rows
     → IsListing q most (left_from from (map version_of placed)) rows
 listing q from most placed rows each h =
@@ -97,7 +93,7 @@ listing q from most placed rows each h =
     let vs = map version_of placed in
     let all = all-permutation _ (filter (is_asked q from) vs) h.found h.same (of_table q from vs (all-map IsStorable version_of placed each)) in
     let first : rows ≡ map queried_columns (take most h.found) = h.rows_are ∙ take-map queried_columns most h.found in
-    let back = read_back t (take most h.found) (all_first _ most h.found all) in
+    let back = read_back t (take most h.found) (all-take _ most h.found all) in
     let kept : IsPermutation (filter (suits q) (left_from from vs)) h.found = rw (asked_left q from vs) h.same in
     record {
       each = subst (AllByRecursion (IsShown t)) (sym first) back.1;

@@ -1,7 +1,6 @@
 -- What is found around a stamp shows there what the states answer.
 use Rattle.std.proofs.Common.{◌≡◌, ◌⊎◌, inl, inr, ℕ, ◌+◌, ◌-◌, ◌<◌, ◌≤◌, List, [], ◌∷◌, ◌++◌, filter, true, ◌&&◌, Option, Some, None, nat_le, nat_lt, refl, sym, ap, subst, ◌∙◌, arith}
 use borrow.Author.Tests.{leb-true, le-leb, ltb-true, ltb-false, lt-ltb}
-use Rattle.std.specs.List.{AllByRecursion}
 use Rattle.std.proofs.lemmas.List.Sorted.{IsPermutation-sym, Contains-permutation}
 use Rattle.sqlite_trees.proofs.ListLemmas.{all-permutation}
 use Rattle.txc_rows.specs.declared.version.Versioned.{Versioned}
@@ -12,10 +11,11 @@ use Rattle.txc_rows.specs.Versions.{suits, is_visible, lives_at, shown_at, Follo
 use Rattle.txc_rows.specs.FoundVersions.{IsNeedless, FindsAround}
 use Rattle.txc_rows.specs.KeptStates.{KeepsStates}
 use Rattle.txc_rows.specs.FoundAnswers.{HoldsOn, ShowsAround, AnswersAround}
-use Rattle.txc_rows.proofs.Members.{bool_cases, both_true, and_true, IsIn, is_in, contains_it, in_filter, from_filter, from_append, all_in, in_left}
+use Rattle.txc_rows.proofs.Members.{bool_cases, both_true, and_true, IsIn, is_in, contains_it, in_filter, from_filter, in_either, all_in, in_left}
 use Rattle.txc_rows.proofs.SaysLemmas.{behind, in_front, said_each, said_only, says_seen}
 use Rattle.txc_rows.proofs.VersionLemmas.{kept_versions}
 use Rattle.txc_rows.proofs.Finding.{Meets, meet, pairs_permute, in_order, shown_rises}
+use Rattle.txc_tags.proofs.All.{all_front}
 
 -- ---- when a version is visible
 
@@ -40,7 +40,7 @@ same_death x d e p q = let two : ◌≡◌ {A = Option ℕ} (Some d) (Some e) = 
 
 -- ---- two versions
 
-two_of : (vs : List Versioned) (v w : Versioned) → Pairwise Follows vs → IsIn v vs → IsIn w vs → (v ≡ w) ⊎ (Follows v w ⊎ Follows w v)
+pub two_of : (vs : List Versioned) (v w : Versioned) → Pairwise Follows vs → IsIn v vs → IsIn w vs → (v ≡ w) ⊎ (Follows v w ⊎ Follows w v)
 two_of [] v w p a b = absurd a
 two_of (u ∷ us) v w p (inl a) (inl b) = inl (a ∙ sym b)
 two_of (u ∷ us) v w p (inl a) (inr b) = inr (inl (subst (λ x. Follows x w) (sym a) (all_in (Follows u) us w p.0 b)))
@@ -70,13 +70,9 @@ across (x ∷ xs) ys w v p (inl a) b = subst (λ y. Meets y v) (sym a) (all_in (
     behind_them (z ∷ zs) h = inr (behind_them zs h)
 across (x ∷ xs) ys w v p (inr a) b = across xs ys w v p.1 a b
 
-front_all : (P : Versioned → Type 0) (xs ys : List Versioned) → AllByRecursion P (xs ++ ys) → AllByRecursion P xs
-front_all P [] ys all = tt
-front_all P (x ∷ xs) ys all = (all.0, front_all P xs ys all.1)
-
 front_pairs : (xs ys : List Versioned) → Pairwise Meets (xs ++ ys) → Pairwise Meets xs
 front_pairs [] ys p = tt
-front_pairs (x ∷ xs) ys p = (front_all (Meets x) xs ys p.0, front_pairs xs ys p.1)
+front_pairs (x ∷ xs) ys p = (all_front (Meets x) xs ys p.0, front_pairs xs ys p.1)
 
 -- ---- what is left out
 
@@ -89,7 +85,7 @@ module _ (q : Query) (t : ℕ) (vs found : List Versioned) (finds : FindsAround 
 
   pub around_versions : AreVersions found
   around_versions =
-      in_order found (front_all IsVersion found finds.rest (all-permutation IsVersion _ (found ++ finds.rest) finds.all (kept_versions (suits q) vs keeps.versions).each))
+      in_order found (all_front IsVersion found finds.rest (all-permutation IsVersion _ (found ++ finds.rest) finds.all (kept_versions (suits q) vs keeps.versions).each))
       (front_pairs found finds.rest pairs) finds.sorted
 
   -- no found version ends in the interval, after its first stamp
@@ -137,7 +133,7 @@ module _ (q : Query) (t : ℕ) (vs found : List Versioned) (finds : FindsAround 
       (λ v h. contains_it vs v (there v (in_left v found finds.rest (is_in found v h))).0)
       (λ v h fits seen.
       let all = is_in (found ++ finds.rest) v (Contains-permutation (filter (suits q) vs) (found ++ finds.rest) v finds.all (contains_it (filter (suits q) vs) v (in_filter (suits q) v vs (is_in vs v h) fits))) in
-      elim (from_append v found finds.rest all) [ inl here ↦ contains_it found v here | inr left ↦ absurd (unseen first last low high none v left s from upto seen) ])
+      elim (in_either v found finds.rest all) [ inl here ↦ contains_it found v here | inr left ↦ absurd (unseen first last low high none v left s from upto seen) ])
       (shown_rises s q found around_versions.apart finds.sorted)
 
   -- where the found ones show one answer none of them ends

@@ -1,12 +1,12 @@
 -- What one change leaves.
-use Rattle.std.proofs.Common.{◌≡◌, ◌⊎◌, inl, inr, ℕ, ◌∷◌, filter, Bool, true, false, not, nat_lt, ◌&&◌, ◌||◌, ◌==◌, ap, arith}
+use Rattle.std.proofs.Common.{◌≡◌, ◌⊎◌, inl, inr, ℕ, List, [], ◌∷◌, ◌++◌, filter, Bool, true, false, not, nat_lt, ◌&&◌, ◌||◌, ◌==◌, refl, ap, arith}
 use Rattle.std.proofs.lemmas.Bool.Decides.{nat_tests}
 use borrow.Author.Tests.{eq-eqb}
 use Rattle.txc_rows.specs.declared.query.Change.{Change}
 use Rattle.txc_rows.specs.declared.query.Change.TheVariants.{Put, Remove}
-use Rattle.txc_rows.specs.States.{RowValue, State, row_before, is_at, after_change}
+use Rattle.txc_rows.specs.States.{RowValue, State, row_before, is_at, after_change, after_changes}
 use Rattle.txc_rows.specs.Net.{change_table, change_id}
-use Rattle.txc_rows.proofs.Members.{IsIn, and_true, not_true_is, in_filter, from_filter, in_left, in_right, from_append}
+use Rattle.txc_rows.proofs.Members.{IsIn, and_true, not_true_is, in_filter, from_filter, in_left, in_right, in_either}
 
 -- the change is of the row's key
 abbrev pub is_of : Change → RowValue → Bool
@@ -38,7 +38,7 @@ other_there (Put row) r s h off = elim (order_cases r.table r.id row.table row.i
 other_there (Remove t i) r s h off = in_filter (λ (x : RowValue). not (is_at t i x)) r s h (ap not off)
 
 pub from_change : (c : Change) (r : RowValue) (s : State) → IsIn r (after_change c s) → (Makes c r) ⊎ (IsIn r s × (is_of c r ≡ false))
-from_change (Put row) r s h = elim (from_append r (filter (λ x. row_before x row) s) (row ∷ filter (λ x. row_before row x) s) h) [
+from_change (Put row) r s h = elim (in_either r (filter (λ x. row_before x row) s) (row ∷ filter (λ x. row_before row x) s) h) [
   | inl low ↦ let it = from_filter (λ (x : RowValue). row_before x row) r s low in inr (it.0, order_apart r.table r.id row.table row.id it.1)
   | inr more ↦ elim more [
     | inl same ↦ inl same
@@ -50,3 +50,8 @@ from_change (Remove t i) r s h = let it = from_filter (λ (x : RowValue). not (i
 pub made_of : (c : Change) (r : RowValue) → Makes c r → is_of c r ≡ true
 made_of (Put row) r h = and_true (r.table == row.table) (r.id == row.id) (eq-eqb _ _ (ap (λ (x : RowValue). x.table) h)) (eq-eqb _ _ (ap (λ (x : RowValue). x.id) h))
 made_of (Remove t i) r h = absurd h
+
+-- changes after others
+pub changes_then : (xs ys : List Change) (s : State) → after_changes (xs ++ ys) s ≡ after_changes ys (after_changes xs s)
+changes_then [] ys s = refl
+changes_then (x ∷ xs) ys s = changes_then xs ys (after_change x s)

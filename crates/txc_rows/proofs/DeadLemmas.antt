@@ -6,6 +6,7 @@ use Rattle.std.specs.List.{slice_get, AllByRecursion, Contains}
 use Rattle.std.specs.Prelude.{MatchOption}
 use Rattle.std.specs.List.Sorted.{IsPermutation}
 use Rattle.std.proofs.lemmas.List.Sorted.{IsPermutation-refl, IsPermutation-sym, IsPermutation-trans, IsPermutation-map, IsPermutation-cons, IsPermutation-middle, length_permutation}
+use Rattle.std.proofs.Math.Bool.{and-false}
 use Rattle.sqlite_trees.proofs.ListLemmas.{filter_same, all_weaker, all_both, all-filter, all-map, all-permutation, IsPermutation-flat_map}
 use Rattle.txc_stamp.specs.declared.stamp.TheConstants.{MOST_STAMP}
 use Rattle.txc_rows.specs.declared.placed.Placed.{Placed}
@@ -151,10 +152,6 @@ module _ (q : Query) (xs : List Placed) (each : AllByRecursion (λ x. IsStorable
       most : nat_le d 18446744073709551615 ≡ true
       most = le-leb d 18446744073709551615 (omega (arith, low))
 
-      off : (b : Bool) → b && false ≡ false
-      off true = refl
-      off false = refl
-
       alone : (b : Bool) → b ≡ b || false
       alone true = refl
       alone false = refl
@@ -166,7 +163,7 @@ module _ (q : Query) (xs : List Placed) (each : AllByRecursion (λ x. IsStorable
           let high = leb-true later d e in
           let here : nat_le from d ≡ true = le-leb from d (omega (arith, first, high)) in
           let past : nat_le d at ≡ false = lt-leb d at (omega (arith, next, high)) in
-          rw (e, most, here, past) (alone s, off s)
+          rw (e, most, here, past) (alone s, and-false s)
       go false e = before (nat_le from d) refl
         where
           early : d < later

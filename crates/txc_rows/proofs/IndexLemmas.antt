@@ -14,7 +14,9 @@ use Rattle.std.specs.Set.{remove_key}
 use Rattle.std.specs.BTreeMap.Range.{range_contains}
 use Rattle.std.specs.declared.ops.Bound.TheVariants.{Included, Excluded}
 use Rattle.std.proofs.lemmas.List.Sorted.{IsPermutation-refl, IsPermutation-sym, IsPermutation-trans, IsPermutation-cons, IsPermutation-middle, IsPermutation-map, length_permutation}
+use Rattle.std.proofs.lemmas.Map.Lookups.{exact_unsigned}
 use Rattle.sqlite_trees.proofs.ListLemmas.{filter-map, all_both, all_weaker, all-filter, all-permutation, filter_all, filter_none, filter_same, IsPermutation-flat_map, IsPermutation-filter}
+use Rattle.txc_base_slots.proofs.SlotLemmas.{number_itself}
 use Rattle.txc_rows.specs.declared.placed.Placed.{Placed}
 use Rattle.txc_rows.specs.declared.replaced.Spot.{Spot}
 use Rattle.txc_rows.specs.declared.replaced.Deaths.{Deaths}
@@ -79,18 +81,12 @@ then_equal Greater p e = absurd (let f = e in cc)
 both_equal : (o p : Ordering) → o ≡ Equal → p ≡ Equal → ordering_then o p ≡ Equal
 both_equal o p e f = rw (e, f) refl
 
-number_equal : (a b : ℕ) → nat_cmp a b ≡ Equal → a ≡ b
-number_equal a b e = grind (arith, nat_tests)
-
-number_itself : (a : ℕ) → nat_cmp a a ≡ Equal
-number_itself a = grind (arith, nat_tests)
-
 pub spot_differs : (s t : Spot) → t.number ≢ s.number → spot_cmp s t ≢ Equal
 spot_differs s t apart same =
     let keys = then_equal (nat_cmp s.table t.table) _ same in
     let deaths = then_equal (nat_cmp s.key t.key) _ keys.1 in
     let numbers = then_equal (nat_cmp s.death t.death) _ deaths.1 in
-    apart (sym (number_equal s.number t.number numbers.1))
+    apart (sym (exact_unsigned s.number t.number numbers.1))
 
 pub spot_itself : (s : Spot) → spot_cmp s s ≡ Equal
 spot_itself s = both_equal _ _ (number_itself s.table) (both_equal _ _ (number_itself s.key) (both_equal _ _ (number_itself s.death) (number_itself s.number)))

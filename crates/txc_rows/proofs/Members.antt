@@ -1,11 +1,12 @@
 -- Tests, and what stands in a list: promises say so by std's `Contains`, inductions by `IsIn`, which is the same.
-use Rattle.std.proofs.Common.{◌≡◌, inl, inr, ℕ, zero, suc, ◌<◌, ◌⊎◌, List, [], ◌∷◌, ◌++◌, map, filter, ◌≤◌, length, get_or, Bool, true, false, true≢false, cond, not, ◌&&◌, refl, sym, ap, subst, ◌∙◌, arith}
+use Rattle.std.proofs.Common.{◌≡◌, inl, inr, ℕ, zero, suc, ◌<◌, List, [], ◌∷◌, map, filter, ◌≤◌, length, get_or, Bool, true, false, true≢false, cond, not, ◌&&◌, refl, sym, ap, ◌∙◌, arith}
 use Rattle.std.proofs.Math.Bool.{and_comm}
 use Rattle.std.proofs.lemmas.List.Elements.{recursion_from_All, filter_passes}
 use Rattle.std.proofs.lemmas.List.Sums.{length-filter, count_by-le-length}
 use Rattle.std.specs.List.{AllByRecursion, Contains}
 use Rattle.sqlite_trees.proofs.ListLemmas.{all_of, filter_same}
-pub use Rattle.txc_tags.proofs.Offered.{bool_cases, both_true, and_true, IsIn, any_there, any_found, in_filter, from_filter, in_left, in_right}
+pub use Rattle.txc_tags.proofs.All.{all_in}
+pub use Rattle.txc_tags.proofs.Offered.{bool_cases, both_true, and_true, IsIn, any_there, any_found, in_filter, from_filter, in_left, in_right, in_either}
 
 pub not_true_is : (b : Bool) → not b ≡ true → b ≡ false
 not_true_is true e = absurd (true≢false (sym e))
@@ -24,11 +25,6 @@ contains_it [] x h = absurd h
 contains_it (y ∷ ys) x (inl same) = (zero, omega arith, sym same)
 contains_it (y ∷ ys) x (inr later) = let it = contains_it ys x later in (suc it.0, omega (arith, it.1), it.2)
 
-pub from_append : {X : Type 0} (x : X) (xs ys : List X) → IsIn x (xs ++ ys) → (IsIn x xs) ⊎ (IsIn x ys)
-from_append x [] ys h = inr h
-from_append x (y ∷ xs) ys (inl same) = inl (inl same)
-from_append x (y ∷ xs) ys (inr later) = elim (from_append x xs ys later) [ inl h ↦ inl (inr h) | inr h ↦ inr h ]
-
 pub in_map : {X Y : Type 0} (f : X → Y) (x : X) (xs : List X) → IsIn x xs → IsIn (f x) (map f xs)
 in_map f x [] h = absurd h
 in_map f x (y ∷ ys) (inl same) = inl (ap f same)
@@ -38,11 +34,6 @@ pub from_map : {X Y : Type 0} (f : X → Y) (y : Y) (xs : List X) → IsIn y (ma
 from_map f y [] h = absurd h
 from_map f y (x ∷ xs) (inl same) = (x, inl refl, same)
 from_map f y (x ∷ xs) (inr later) = let it = from_map f y xs later in (it.0, inr it.1, it.2)
-
-pub all_in : {X : Type 0} (P : X → Type 0) (xs : List X) (x : X) → AllByRecursion P xs → IsIn x xs → P x
-all_in P [] x all h = absurd h
-all_in P (y ∷ ys) x all (inl same) = subst P (sym same) all.0
-all_in P (y ∷ ys) x all (inr later) = all_in P ys x all.1 later
 
 pub few_left : {X : Type 0} (p : X → Bool) (xs : List X) → length (filter p xs) ≤ length xs
 few_left p xs = omega (arith, length-filter p xs, count_by-le-length p xs)

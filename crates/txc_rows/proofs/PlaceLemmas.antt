@@ -5,6 +5,7 @@ use Rattle.std.proofs.lemmas.Bool.Decides.{nat_tests}
 use Rattle.std.specs.List.{AllByRecursion}
 use Rattle.std.specs.List.Sorted.{IsPermutation}
 use Rattle.std.proofs.lemmas.List.Sorted.{IsPermutation-refl, IsPermutation-trans, IsPermutation-cons, IsPermutation-middle}
+use Rattle.std.proofs.lemmas.Bool.{lt-ltb, ltb-false}
 use Rattle.sqlite.specs.Tree.{IsAscending}
 use Rattle.sqlite_trees.proofs.ListLemmas.{along_permutation, all_weaker, all-permutation, all-filter}
 use Rattle.txc_rows.specs.declared.placed.Placed.{Placed}
@@ -92,10 +93,7 @@ module _ (f : Placed → Placed) (keeps : (x : Placed) → (f x).place ≡ x.pla
   by_place_mapped (x ∷ xs) = ap (put_at_place (f x)) (by_place_mapped xs) ∙ put_in_mapped x (by_place xs)
 
 put_in_before : (x n : Placed) (ys : List Placed) → x.place < n.place → put_at_place x (ys ++ n ∷ []) ≡ put_at_place x ys ++ n ∷ []
-put_in_before x n [] low = let e : nat_lt x.place n.place ≡ true = lower x.place n.place low in rw e refl
-  where
-    lower : (a b : ℕ) → a < b → nat_lt a b ≡ true
-    lower a b h = grind (arith, nat_tests)
+put_in_before x n [] low = let e : nat_lt x.place n.place ≡ true = lt-ltb x.place n.place low in rw e refl
 put_in_before x n (y ∷ ys) low = elim (bool_cases (nat_lt x.place y.place)) [
   | inl e ↦ rw e refl
   | inr e ↦ rw e (ap (λ rest. y ∷ rest) (put_in_before x n ys low))
@@ -114,12 +112,9 @@ put_in_rises x (y ∷ ys) up = go (nat_lt x.place y.place) refl (put_in_rises x 
     low_of : (a b : ℕ) → nat_lt a b ≡ true → a ≤ b
     low_of a b h = grind (arith, nat_tests)
 
-    high_of : (a b : ℕ) → nat_lt a b ≡ false → b ≤ a
-    high_of a b h = grind (arith, nat_tests)
-
     go : (b : Bool) → nat_lt x.place y.place ≡ b → IsAscending (λ a c. a.place ≤ c.place) (put_at_place x ys) → IsAscending (λ a c. a.place ≤ c.place) (cond b (x ∷ y ∷ ys) (y ∷ put_at_place x ys))
     go true e more = let low = low_of x.place y.place e in ((low, all_weaker (λ z. y.place ≤ z.place) (λ z. x.place ≤ z.place) (λ z high. omega (arith, low, high)) ys up.0), up)
-    go false e more = (all-permutation (λ b. y.place ≤ b.place) (x ∷ ys) (put_at_place x ys) (put_in_permutes x ys) (high_of x.place y.place e, up.0), more)
+    go false e more = (all-permutation (λ b. y.place ≤ b.place) (x ∷ ys) (put_at_place x ys) (put_in_permutes x ys) (ltb-false x.place y.place e, up.0), more)
 
 by_place_rises : (xs : List Placed) → IsAscending (λ a b. a.place ≤ b.place) (by_place xs)
 by_place_rises [] = tt

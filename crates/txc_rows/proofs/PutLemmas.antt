@@ -18,16 +18,9 @@ use Rattle.txc_rows.specs.Placed.{version_of, by_place, versions_by_place, has_k
 use Rattle.txc_rows.proofs.Members.{bool_cases, both_true, and_true, none_of, passing}
 use Rattle.txc_rows.proofs.StoredVersions.{hit_is, holdable_closed, closed_dead}
 use Rattle.txc_rows.proofs.PlaceLemmas.{pairs_permuted, by_place_same, by_place_mapped, by_place_last, own_places_permuted}
+use Rattle.txc_tags.proofs.All.{all_front, all_back}
 
 -- ---- what is left of a list, and its front
-
-pub all_front : {A : Type 0} (P : A → Type 0) (xs ys : List A) → AllByRecursion P (xs ++ ys) → AllByRecursion P xs
-all_front P [] ys all = tt
-all_front P (x ∷ xs) ys all = (all.0, all_front P xs ys all.1)
-
-pub all_back : {A : Type 0} (P : A → Type 0) (xs ys : List A) → AllByRecursion P (xs ++ ys) → AllByRecursion P ys
-all_back P [] ys all = all
-all_back P (x ∷ xs) ys all = all_back P xs ys all.1
 
 -- each of two lists, and each of the first with each of the second
 pub parts : {A : Type 0} (R : A → A → Type 0) (xs ys : List A) → IsAscending R (xs ++ ys) → IsAscending R xs × IsAscending R ys × AllByRecursion (λ x. AllByRecursion (R x) ys) xs

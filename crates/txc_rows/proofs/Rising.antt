@@ -6,7 +6,7 @@ use Rattle.txc_rows.specs.declared.query.Change.{Change}
 use Rattle.txc_rows.specs.declared.query.Change.TheVariants.{Put, Remove}
 use Rattle.txc_rows.specs.States.{RowValue, State, row_before, IsState, is_at, after_change, after_changes}
 use Rattle.txc_rows.specs.Laws.{StatesAreRows}
-use Rattle.txc_rows.proofs.Members.{IsIn, is_in, contains_it, from_filter, from_append, all_in}
+use Rattle.txc_rows.proofs.Members.{IsIn, is_in, contains_it, from_filter, in_either, all_in}
 
 pub lt_trans : (a b c d e f : ℕ) → nat_lt a c || ((a == c) && nat_lt b d) ≡ true → nat_lt c e || ((c == e) && nat_lt d f) ≡ true → nat_lt a e || ((a == e) && nat_lt b f) ≡ true
 lt_trans a b c d e f h k = grind (arith, nat_tests)
@@ -42,7 +42,7 @@ filter_state p (r ∷ rs) h =
 between : (row : RowValue) (xs ys : State) → IsState xs → IsState ys → ((x : RowValue) → IsIn x xs → row_before x row ≡ true) → Above row ys → IsState (xs ++ row ∷ ys)
 between row [] ys hx hy low high = (high, hy)
 between row (x ∷ xs) ys hx hy low high = (
-  above_from x (xs ++ row ∷ ys) (λ z h. elim (from_append z xs (row ∷ ys) h) [
+  above_from x (xs ++ row ∷ ys) (λ z h. elim (in_either z xs (row ∷ ys) h) [
     | inl inside ↦ above_in x z xs hx.0 inside
     | inr it ↦ elim it [
       | inl same ↦ subst (λ (w : RowValue). row_before x w ≡ true) (sym same) (low x (inl refl))

@@ -16,7 +16,7 @@ use Rattle.txc_rows.specs.Versions.{lives_at, is_visible, row_of, visible_rows, 
 use Rattle.txc_rows.specs.VersionsAndStates.{VersionsSay, AreUpTo, IdsAscend}
 use Rattle.txc_rows.specs.Laws.{SaysNothing, SaysAgree, SaysWritten, SaysQuiet, SaysPurged, SaysAnswer}
 use Rattle.txc_rows.proofs.ChangeLemmas.{made_there, other_there, from_change}
-use Rattle.txc_rows.proofs.Members.{IsIn, bool_cases, both_true, and_true, not_true_is, is_in, contains_it, in_filter, from_filter, in_left, in_right, from_append, in_map, from_map, all_in}
+use Rattle.txc_rows.proofs.Members.{IsIn, bool_cases, both_true, and_true, not_true_is, is_in, contains_it, in_filter, from_filter, in_left, in_right, in_either, in_map, from_map, all_in}
 
 -- ---- what versions say, by `IsIn`
 
@@ -134,7 +134,7 @@ one_change s (Put row) vs st dead says = says_of s (put row s vs) (after_change 
     only : (r : RowValue) → IsIn r (visible_rows s (put row s vs)) → IsIn r (after_change (Put row) st)
     only r h =
         let b = behind (is_visible s) (put row s vs) r h in
-        elim (from_append b.version (removed row.table row.id s vs) (record { row = row; born = s; died = None } ∷ []) b.stands) [
+        elim (in_either b.version (removed row.table row.id s vs) (record { row = row; born = s; died = None } ∷ []) b.stands) [
           | inl old ↦ let o = seen_removed s row.table row.id vs st r dead says (record { version = b.version; stands = old; passes = b.passes; is = b.is }) in other_there (Put row) r st o.stands o.apart
           | inr new ↦ elim new [ inl same ↦ made_there (Put row) r st (b.is ∙ ap row_of same) | inr none ↦ absurd none ]
         ]

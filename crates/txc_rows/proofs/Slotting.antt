@@ -27,8 +27,8 @@ use Rattle.txc_rows.specs.Placed.{version_of, is_left, left_from, placed_left, c
 use Rattle.txc_rows.specs.LatestTable.{IsFinding}
 use Rattle.txc_rows.specs.VersionSlots.{row_key, group_key, row_slot, group_slot, in_slots, row_between, in_group_of, AreCurrent, Moves}
 use Rattle.txc_rows.proofs.Members.{both_true, passing}
-use Rattle.txc_rows.proofs.PutLemmas.{all_front, all_back}
 use Rattle.txc_rows.proofs.IndexLemmas.{keys_between, between_one}
+use Rattle.txc_tags.proofs.All.{all_front, all_back}
 
 -- ---- keys
 

@@ -20,7 +20,8 @@ use Rattle.txc_rows.specs.Placed.{version_of, by_place, versions_by_place, lasts
 use Rattle.txc_rows.proofs.Members.{bool_cases, filtered_both}
 use Rattle.txc_rows.proofs.StoredVersions.{hit_is}
 use Rattle.txc_rows.proofs.PlaceLemmas.{pairs_permuted, by_place_same, by_place_left, own_places_permuted}
-use Rattle.txc_rows.proofs.PutLemmas.{all_front, all_back, parts, key_turned, one_turned}
+use Rattle.txc_rows.proofs.PutLemmas.{parts, key_turned, one_turned}
+use Rattle.txc_tags.proofs.All.{all_front, all_back}
 
 -- ---- a sweep
 

@@ -2,7 +2,7 @@
 use Rattle.std.proofs.Common.{◌≡◌, ◌≢◌, ℕ, ◌-◌, ◌<◌, ◌≤◌, Bool, true, false, zero, suc, List, [], ◌∷◌, ◌++◌, length, take, refl, sym, ap, ◌∙◌, arith}
 use Rattle.std.specs.List.{All, AllByRecursion, onto_first}
 use Rattle.std.proofs.lemmas.Bool.Decides.{nat_tests}
-use Rattle.std.proofs.lemmas.List.Elements.{All-cons, All-nil}
+use Rattle.std.proofs.lemmas.List.Elements.{All-cons, All-nil, All-from_recursion}
 use Rattle.std.proofs.lemmas.List.Splits.{slice_split_at, slice_split_none, join_with_byte-slice_split, length-slice_split}
 use Rattle.txc_script.specs.Words.{HasNoBlank, HasWords, is_blank, words_of}
 
@@ -35,12 +35,8 @@ bare_parts (x ∷ text) =
     ] in
     go (is_blank x) refl
 
-all_parts : (parts : List (List ℕ)) → AllByRecursion HasNoBlank parts → All HasNoBlank parts
-all_parts [] h = All-nil HasNoBlank
-all_parts (part ∷ parts) h = All-cons HasNoBlank part parts h.0 (all_parts parts h.1)
-
 pub has_words : (text : List ℕ) → HasWords text (words_of text)
-has_words text = record { joined = sym (join_with_byte-slice_split 32 text); each_is_one = all_parts (words_of text) (bare_parts text) }
+has_words text = record { joined = sym (join_with_byte-slice_split 32 text); each_is_one = All-from_recursion HasNoBlank (words_of text) (bare_parts text) }
 
 pub some_word : (text : List ℕ) → 1 ≤ length (words_of text)
 some_word text = omega (arith, length-slice_split is_blank text)

@@ -1,11 +1,12 @@
 -- Where a byte first stands in others.
-use Rattle.std.proofs.Common.{◌≡◌, ◌≢◌, ℕ, Result, Ok, Err, OnOk, is_ok, if◌then◌else◌, ◌+◌, ◌-◌, ◌<◌, ◌≤◌, Bool, true, false, not, eqb, ltb, suc, cond, List, [], ◌∷◌, ◌++◌, length, take, drop, get_or, Some, None, refl, sym, ap, ◌∙◌, arith}
+use Rattle.std.proofs.Common.{◌≡◌, ◌≢◌, ℕ, Result, Ok, Err, OnOk, is_ok, if◌then◌else◌, ◌+◌, ◌-◌, ◌<◌, ◌≤◌, Bool, true, false, not, eqb, suc, cond, List, [], ◌∷◌, ◌++◌, length, take, drop, get_or, Some, None, refl, sym, ap, ◌∙◌, arith}
 use Rattle.std.specs.List.{All, position, prefix_len}
 use Rattle.std.proofs.lemmas.Bool.Decides.{nat_tests, Decides-eqb}
 use Rattle.std.proofs.lemmas.List.Quantifiers.{position-Some}
 use Rattle.std.proofs.lemmas.List.{take-append-drop, drop_more, length-take, get_or-take, take_rest, length-append, take_all}
 use Rattle.std.proofs.Math.Seq.{take-append-add}
 use Rattle.std.proofs.lemmas.List.Elements.{All-cons}
+use Rattle.txc_node.proofs.Inserts.{at_end}
 
 is_not : (a b : ℕ) → eqb a b ≡ false → a ≢ b
 is_not a b h e = grind (arith, nat_tests)
@@ -26,9 +27,6 @@ cut_at c xs i h =
           let m : j < i = omega (arith, length-take i xs) in
           is_not _ _ (ap (λ b. eqb b c) (get_or-take i xs j d m) ∙ (position-Some (λ b. eqb b c) xs i d h).2 j m);
     }
-
-at_end : (a b : ℕ) → cond (ltb a b) (Some a) None ≡ None → b ≤ a
-at_end a b h = grind (arith, nat_tests)
 
 nowhere : (p : ℕ → Bool) (es : List ℕ) → length es ≤ prefix_len (λ b. not (p b)) es → All (λ b. p b ≡ false) es
 nowhere p [] h = λ k d l. absurd (omega arith)

@@ -3,6 +3,7 @@ use Rattle.std.proofs.Common.{◌≡◌, ◌<◌, ℕ, Bool, true, false, Some, 
 use Rattle.std.specs.Prelude.{if◌then◌else◌}
 use Rattle.std.specs.List.{AllByRecursion, join_with_byte}
 use Rattle.std.specs.Str.{bytes_eq}
+use Rattle.std.proofs.lemmas.Option.{same_Some}
 use Rattle.txc_script.specs.LineForms.{AsksBy, IsOfForm, LineForm, form_named}
 use Rattle.txc_script.specs.LineFaults.{IsCommandFault}
 use Rattle.txc_script.specs.Lines.{IsBlankOrComment, IsQuiet}
@@ -14,9 +15,6 @@ use Rattle.txc_script.proofs.SaidKinds.{mean_kinds, not_wrong}
 
 -- ---- forms by their names
 
-same_some : {X : Type 0} (x y : X) → Some x ≡ Some y → x ≡ y
-same_some x y e = cc
-
 none_some : {X : Type 0} (x : X) → None ≡ Some x → ⊥
 none_some x e = cc
 
@@ -25,7 +23,7 @@ form_has : {A : Type 0} (Has : LineForm A → Type 0) (forms : List (LineForm A)
 form_has Has [] name form all e = absurd (none_some form e)
 form_has Has (f ∷ forms) name form all e =
     let go : (b : Bool) → (if b then Some f else form_named forms name) ≡ Some form → Has form = λ b. elim b as (λ v. (if v then Some f else form_named forms name) ≡ Some form → Has form) [
-      | true ↦ (λ same. subst Has (same_some f form same) all.0)
+      | true ↦ (λ same. subst Has (same_Some f form same) all.0)
       | false ↦ (λ same. form_has Has forms name form all.1 same)
     ] in
     go (bytes_eq name f.name) e
@@ -42,7 +40,7 @@ says_in {A} forms form line words asked known e h =
     let both : form.name ∷ words ≡ h.form.name ∷ h.words = sym e ∙ h.are in
     let names : form.name ≡ h.form.name = cc in
     let others : words ≡ h.words = cc in
-    let same : form ≡ h.form = same_some form h.form (sym known ∙ ap (form_named forms) names ∙ h.named) in
+    let same : form ≡ h.form = same_Some form h.form (sym known ∙ ap (form_named forms) names ∙ h.named) in
     subst (λ (f : LineForm A). IsOfForm f words asked) (sym same) (of_words h.form h.words words asked (sym others) h.is)
 
 -- one that begins with another name

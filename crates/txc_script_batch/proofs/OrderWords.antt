@@ -1,6 +1,7 @@
 -- What the lines of a batch's script ask for, by their first word.
 use Rattle.std.proofs.Common.{◌≡◌, ℕ, List, [], ◌∷◌, Some, None, refl, sym, ap, subst, inl, inr, ◌∙◌}
 use Rattle.std.specs.Prelude.{codes, option_map}
+use Rattle.std.proofs.lemmas.Option.{same_Some}
 use Rattle.txc_script.specs.ParsedWords.{SayAll}
 use Rattle.txc_script.specs.Words.{words_of}
 use Rattle.txc_script.specs.declared.line_fault.WordKind.{WordKind}
@@ -13,7 +14,7 @@ use Rattle.txc_script_lines.specs.Names.{name_text}
 use Rattle.txc_script_lines.specs.LineWords.{AreBodies, SaysAfter, change_said}
 use Rattle.txc_script_lines.specs.declared.name.LineName.{LineName}
 use Rattle.txc_script_lines.specs.declared.name.LineName.TheVariants as names
-use Rattle.txc_script_lines.proofs.Offered.{apart, bodies, change_bodies, change_there, first_is, none_mapped, none_some, others_are, own_change, same_name, same_some}
+use Rattle.txc_script_lines.proofs.Offered.{apart, bodies, change_bodies, change_there, first_is, none_mapped, none_some, others_are, own_change, same_name}
 use Rattle.txc_work.specs.declared.job.Job.{Job}
 use Rattle.txc_script_batch.specs.Orders.{AreJobWords, AsksFor, IsPreparing, Prepares, SpellsPreparing, order_said}
 use Rattle.txc_script_batch.specs.QueuedJobs.{QueuedValue}
@@ -71,7 +72,7 @@ pub asks_some : (name : LineName) (words : List (List ℕ)) (values : List Parse
 asks_some names.Put words values is h = own names.Put changes.Put words values refl refl h
 asks_some names.Remove words values is h = own names.Remove changes.Remove words values refl refl h
 asks_some names.Pin words values is h =
-    let say = subst (λ (ks : List WordKind). SayAll ks words values) (same_some h.kinds (moment ∷ []) (sym h.known)) h.say in
+    let say = subst (λ (ks : List WordKind). SayAll ks words values) (same_Some h.kinds (moment ∷ []) (sym h.known)) h.say in
     let by = said_of (moment ∷ []) words values say in
     (bodies (moment ∷ []) words values tt say, (λ none. none_some _ (ap (order_said names.Pin) (sym by.2) ∙ none)))
 asks_some name words values is h = absurd is

@@ -1,7 +1,7 @@
 -- Pins of the present that are added to a pincushion, or whose hold is taken away.
 use Rattle.std.proofs.Common.{◌≡◌, ℕ, Bool, true, false, List, [], ◌∷◌, ◌++◌, Result, Ok, Err, OnOk, IfErr, eq-eqb, refl, sym, ap, ◌∙◌, ◌+◌, arith, length-append}
 use Rattle.std.specs.Prelude.{◌||◌, ◌==◌}
-use Rattle.std.proofs.lemmas.Bool.{false≢true}
+use Rattle.std.proofs.lemmas.Bool.{false≢true, or_right}
 use Rattle.txc_db.specs.declared.error.DbError.{DbError}
 use Rattle.txc_db.specs.declared.error.DbError.TheVariants as refusals
 use Rattle.txc_db.specs.declared.pinned.Pinned.{Pinned}
@@ -31,13 +31,9 @@ pinned_present now s new e pinned is stamp moment front can added addable = reco
 
 -- ---- the hold of a pin can be taken away
 
-or_true : (a b : Bool) → b ≡ true → (a || b) ≡ true
-or_true true b e = refl
-or_true false b e = e
-
 held_last : (stamp : ℕ) (holds : List ℕ) → is_held stamp (holds ++ stamp ∷ []) ≡ true
 held_last stamp [] = ap (λ (b : Bool). b || false) (eq-eqb stamp stamp refl)
-held_last stamp (s ∷ holds) = or_true (s == stamp) (is_held stamp (holds ++ stamp ∷ [])) (held_last stamp holds)
+held_last stamp (s ∷ holds) = or_right (s == stamp) (is_held stamp (holds ++ stamp ∷ [])) (held_last stamp holds)
 
 held_pin : (now stamp : ℕ) (d : DatabaseValue) → stamp ≡ newest (after_pin d now) → is_held stamp (after_pin d now).holds ≡ true
 held_pin now stamp d is =

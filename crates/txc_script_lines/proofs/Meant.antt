@@ -1,6 +1,7 @@
 -- Words that are of the kinds that a line's name wants say what they are to say.
 use Rattle.std.proofs.Common.{◌≡◌, ℕ, List, [], ◌∷◌, Option, Some, None, get_or, length, take, ◌≤◌, arith, refl, sym, ap, subst, ◌∙◌}
 use Rattle.std.specs.Prelude.{option_map, MatchOption}
+use Rattle.std.proofs.lemmas.Option.{same_Some}
 use Rattle.txc_rows.specs.Values.{IsBody}
 use Rattle.txc_rows.specs.declared.row.TheConstants.{MAX_BODY_LEN}
 use Rattle.txc_script.specs.Lines.{change_named, query_named}
@@ -19,9 +20,6 @@ use Rattle.txc_script_lines.specs.Faults.{IsFaultAfter, IsUnkindFault, WordsFaul
 use Rattle.txc_script_lines.specs.LineWords.{AreBodies, SaysAfter, change_said, query_said}
 use Rattle.txc_script_lines.specs.declared.name.LineName.{LineName}
 use Rattle.txc_script_lines.specs.declared.name.LineName.TheVariants as names
-
-pub same_some : {X : Type 0} (x y : X) → Some x ≡ Some y → x ≡ y
-same_some x y e = cc
 
 pub none_some : {X : Type 0} (x : X) → Some x ≡ None → ⊥
 none_some x e = cc
@@ -112,11 +110,11 @@ change_there name words values h none =
 
 -- the change of a line of one's own
 pub own_change : (line : LineName) (name : ChangeName) (words : List (List ℕ)) (values : List ParsedWord) → kinds_after_name line (second_of words) ≡ Some (kinds_of_change name) → SaysAfter line words values → SayAll (kinds_of_change name) words values
-own_change line name words values known h = subst (λ (ks : List WordKind). SayAll ks words values) (same_some h.kinds (kinds_of_change name) (sym h.known ∙ known)) h.say
+own_change line name words values known h = subst (λ (ks : List WordKind). SayAll ks words values) (same_Some h.kinds (kinds_of_change name) (sym h.known ∙ known)) h.say
 
 -- the words of this name have one name, and others
 change_is : (word : List ℕ) (value : ParsedWord) (name : ChangeName) → SaysWord word_kinds.ChangeName word value → change_named word ≡ Some name → value ≡ said.Change name
-change_is word (said.Change n) name h e = ap said.Change (same_some n name (sym h ∙ e))
+change_is word (said.Change n) name h e = ap said.Change (same_Some n name (sym h ∙ e))
 change_is word value name h e = absurd h
 
 -- an actor and a change
@@ -130,7 +128,7 @@ pub record HasChange (values : List ParsedWord) : Type 0 where
 
 named_kinds : {N : Type 0} (f : N → List WordKind) (o : Option N) (kinds : List WordKind) → option_map f o ≡ Some kinds → (n : N) × (o ≡ Some n) × (f n ≡ kinds)
 named_kinds f None kinds e = absurd (none_some kinds (sym e))
-named_kinds f (Some n) kinds e = (n, refl, same_some (f n) kinds e)
+named_kinds f (Some n) kinds e = (n, refl, same_Some (f n) kinds e)
 
 pair_are : (a b c d : ParsedWord) (rest : List ParsedWord) → a ≡ c → b ≡ d → a ∷ b ∷ rest ≡ c ∷ d ∷ rest
 pair_are a b c d rest e f = ap (λ (x : ParsedWord). x ∷ b ∷ rest) e ∙ ap (λ (x : ParsedWord). c ∷ x ∷ rest) f
@@ -152,7 +150,7 @@ has_change words values kinds e h =
 -- ---- a word of this kind, and a query
 
 query_is : (word : List ℕ) (value : ParsedWord) (name : QueryName) → SaysWord word_kinds.QueryName word value → query_named word ≡ Some name → value ≡ said.Query name
-query_is word (said.Query n) name h e = ap said.Query (same_some n name (sym h ∙ e))
+query_is word (said.Query n) name h e = ap said.Query (same_Some n name (sym h ∙ e))
 query_is word value name h e = absurd h
 
 query_by : (name : QueryName) (all : AllSaidOf (kinds_of_query name)) → query_said (said.Query name ∷ all_said_by (kinds_of_query name) all) ≡ None → ⊥

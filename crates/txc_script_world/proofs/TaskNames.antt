@@ -1,5 +1,6 @@
 -- What the words of the lines of a world's script ask for.
 use Rattle.std.proofs.Common.{◌≡◌, ℕ, List, [], ◌∷◌, Some, None, refl, sym, ap, subst, ◌∙◌}
+use Rattle.std.proofs.lemmas.Option.{same_Some}
 use Rattle.txc_script.specs.ParsedWords.{AllSaidOf, SayAll}
 use Rattle.txc_script.specs.declared.line_fault.WordKind.{WordKind}
 use Rattle.txc_script.specs.declared.line_fault.WordKind.TheVariants.{Function, Key, Stamp}
@@ -11,7 +12,7 @@ use Rattle.txc_script_lines.specs.Faults.{kinds_of_change, kinds_after_name, mom
 use Rattle.txc_script_lines.specs.LineWords.{AreBodies, SaysAfter, change_said, query_said}
 use Rattle.txc_script_lines.specs.declared.name.LineName.{LineName}
 use Rattle.txc_script_lines.specs.declared.name.LineName.TheVariants as names
-use Rattle.txc_script_lines.proofs.Offered.{HasChange, HasQuery, HaveBodies, bodies, change_bodies, change_there, has_change, has_query, none_mapped, none_some, own_change, same_some}
+use Rattle.txc_script_lines.proofs.Offered.{HasChange, HasQuery, HaveBodies, bodies, change_bodies, change_there, has_change, has_query, none_mapped, none_some, own_change}
 use Rattle.txc_script_world.specs.Tasks.{keeper_change, task_said}
 use Rattle.txc_script_world.specs.declared.task.Task.TheVariants as tasks
 use Rattle.txc_rows.specs.declared.query.Change.{Change}
@@ -29,7 +30,7 @@ pub record AsksSome (name : LineName) (values : List ParsedWord) : Type 0 where
 asks_by : (name : LineName) (words : List (List ℕ)) (values : List ParsedWord) (kinds : List WordKind) → SaysAfter name words values → kinds_after_name name (second_of words) ≡ Some kinds → HaveBodies kinds
     → ((all : AllSaidOf kinds) → task_said name (all_said_by kinds all) ≡ None → ⊥) → AsksSome name values
 asks_by name words values kinds h known texts some =
-    let say = subst (λ (ks : List WordKind). SayAll ks words values) (same_some h.kinds kinds (sym h.known ∙ known)) h.say in
+    let say = subst (λ (ks : List WordKind). SayAll ks words values) (same_Some h.kinds kinds (sym h.known ∙ known)) h.say in
     let by = said_of kinds words values say in
     record { bodies = bodies kinds words values texts say; some = λ none. some by.0 (ap (task_said name) (sym by.2) ∙ none) }
 

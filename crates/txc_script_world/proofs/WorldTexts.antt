@@ -2,11 +2,6 @@
 use Rattle.std.proofs.Common.{◌≡◌, ℕ, List, [], ◌∷◌, ◌++◌, map, sym, ap, append-nil}
 use Rattle.std.specs.List.{flat_map, join_with_byte}
 
--- they are the first, and each other with a comma before it
-pub join_others : {X : Type 0} (write : X → List ℕ) (first : X) (others : List X) → join_with_byte 44 (map write (first ∷ others)) ≡ write first ++ flat_map (λ y. 44 ∷ write y) others
-join_others write first [] = sym (append-nil (write first))
-join_others write first (other ∷ others) = ap (λ zs. write first ++ 44 ∷ zs) (join_others write other others)
-
 -- the same of what is found in each
 pub join_found : {X : Type 0} (write : ℕ → List ℕ) (find : X → ℕ) (first : X) (others : List X)
     → join_with_byte 44 (map write (map find (first ∷ others))) ≡ write (find first) ++ flat_map (λ y. 44 ∷ write (find y)) others

@@ -1,6 +1,7 @@
 -- What a node shows of its entries stays true.
-use Rattle.std.proofs.Common.{◌≡◌, ◌⊎◌, inl, inr, ℕ, zero, suc, ◌+◌, ◌-◌, ◌<◌, ◌≤◌, List, [], ◌∷◌, length, drop, Bool, true, false, true≢false, cond, nat_lt, max, ◌&&◌, refl, sym, ap, subst, ◌∙◌, arith}
+use Rattle.std.proofs.Common.{◌≡◌, inl, inr, ℕ, zero, suc, ◌+◌, ◌-◌, ◌≤◌, List, [], ◌∷◌, length, drop, Bool, true, false, true≢false, cond, nat_lt, max, ◌&&◌, refl, sym, ap, subst, ◌∙◌, arith}
 use Rattle.std.proofs.lemmas.Bool.Decides.{nat_tests}
+use Rattle.std.proofs.lemmas.Bool.{ltb-true, ltb-false, cases_lt}
 use Rattle.txc_stamp.specs.Interval.{Interval, closed_at}
 use Rattle.txc_tags.specs.declared.tag.Tag.{Tag}
 use Rattle.txc_tags.specs.Tags.{sets_match}
@@ -31,9 +32,6 @@ shown_closed : (p : ℕ) (e : Entry) → e.reach.still ≡ false → shown_entry
 shown_closed p e is =
     by_parts e (cond e.reach.still (max e.reach.known p) e.reach.known + 1 - 1) e.reach.known e.reach.still e.reach.still (rw is (omega arith)) refl
 
-upto : (t n : ℕ) → t ≤ suc n → (t ≤ n) ⊎ (t ≡ suc n)
-upto t n h = grind arith
-
 -- a still valid entry that the next event does not match is true up to that event
 true_with_event : EventLeaves → (next : Next) (L : History) (e : Entry) (k : ℕ) → IsTrueIn next L (ending e k true) → e.reach.lo ≤ k
     → suc k ≤ length L → sets_match (tags_at L (suc k)) e.tags ≡ false
@@ -41,15 +39,16 @@ true_with_event : EventLeaves → (next : Next) (L : History) (e : Entry) (k : �
 true_with_event law next L e k h some short apart =
     let same : evaluation next e.key (state_at L k) ≡ evaluation next e.key (state_at L (suc k)) =
     law next e.key L k e.tags (h.covered refl k (some, omega arith)) apart in
+    let last : (t : ℕ) → k < t → t ≤ suc k → t ≡ suc k = λ t past upto. omega arith in
     record {
       within = short;
-      holds = λ t inside. elim (upto t k inside.1) [
-        | inl before ↦ h.holds t (inside.0, before)
-        | inr here ↦ rw here (ap (λ (o : Evaluation). o.value) (sym same) ∙ h.holds k (some, omega arith))
+      holds = λ t inside. elim (cases_lt k t) [
+        | inl past ↦ rw (last t past inside.1) (ap (λ (o : Evaluation). o.value) (sym same) ∙ h.holds k (some, omega arith))
+        | inr before ↦ h.holds t (inside.0, before)
       ];
-      covered = λ s t inside. elim (upto t k inside.1) [
-        | inl before ↦ h.covered s t (inside.0, before)
-        | inr here ↦ rw here (ap (λ (o : Evaluation). covers_all e.tags o.met) (sym same) ∙ h.covered s k (some, omega arith))
+      covered = λ s t inside. elim (cases_lt k t) [
+        | inl past ↦ rw (last t past inside.1) (ap (λ (o : Evaluation). covers_all e.tags o.met) (sym same) ∙ h.covered s k (some, omega arith))
+        | inr before ↦ h.covered s t (inside.0, before)
       ];
     }
 
@@ -143,15 +142,6 @@ replayed law next L q stamp (T ∷ Ts) e is h tags long =
     subst (λ (k : ℕ). IsShownTrue next L k (after_events (stamp + 1) Ts (entry_after stamp T e))) (let e : suc q + length Ts ≡ q + length (T ∷ Ts) = omega arith in e)
     (replayed law next L (suc q) (stamp + 1) Ts (entry_after stamp T e) (omega (arith, is)) step tags.1 (omega arith))
 
-lt_true : (a b : ℕ) → nat_lt a b ≡ true → a < b
-lt_true a b h = grind (arith, nat_tests)
-
-lt_false : (a b : ℕ) → nat_lt a b ≡ false → b ≤ a
-lt_false a b h = grind (arith, nat_tests)
-
-le_cases : (a b : ℕ) → (a ≤ b) ⊎ (b < a)
-le_cases a b = grind arith
-
 none_left : (Ts : List (List Tag)) → length Ts ≡ 0 → Ts ≡ []
 none_left [] e = refl
 none_left (T ∷ Ts) e = absurd (omega (arith, e))
@@ -167,16 +157,16 @@ true_after_replay law replays lost next L c e h some keeps within = go e.reach.s
         let same : replayed_entry c e ≡ e = ap (λ (i : Interval). record e { reach = i }) (closed_stays e.reach e.tags c.processed c.recent is) in
         subst (IsShownTrue next L c.processed) (sym same) (record { some = some; true_as_shown = subst (IsTrueIn next L) (sym (shown_closed c.processed e is)) h })
     go true is true low =
-        let r = lost c e is (lt_true (length c.recent) (c.processed - e.reach.known) low) in
+        let r = lost c e is (ltb-true (length c.recent) (c.processed - e.reach.known) low) in
         let same : replayed_entry c e ≡ ending e e.reach.known false = ap (λ (i : Interval). record e { reach = i }) r in
         subst (IsShownTrue next L c.processed) (sym same) (closed_shown next L c.processed e e.reach.known some (true_closed next L e e.reach.known e.reach.still h))
     go true is false low =
-        let few = lt_false (length c.recent) (c.processed - e.reach.known) low in
+        let few = ltb-false (length c.recent) (c.processed - e.reach.known) low in
         let same = replays c e is few in
         let m = c.processed - e.reach.known in
         let here : IsTrueIn next L (ending e e.reach.known true) = subst (λ (b : Bool). IsTrueIn next L (ending e e.reach.known b)) is h in
         let count : length (last_of m c.recent) ≡ m = drop_length (length c.recent - m) c.recent (omega arith) ∙ omega (arith, few) in
-        subst (IsShownTrue next L c.processed) (sym same) (elim (le_cases e.reach.known c.processed) [
+        subst (IsShownTrue next L c.processed) (sym same) (elim (cases_lt c.processed e.reach.known) [
           | inl below ↦
               let shown : IsShownTrue next L e.reach.known e =
               still_shown next L e.reach.known e is some (subst (λ (k : ℕ). IsTrueIn next L (ending e k true)) (sym (max_left e.reach.known e.reach.known (omega arith))) here) in

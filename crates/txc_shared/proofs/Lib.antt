@@ -10,3 +10,4 @@ pub mod Crosses
 pub mod Worked
 pub mod Left
 pub mod Together
+pub mod Hits

@@ -1,10 +1,11 @@
 -- Runs of a node: one step more, and longer histories.
-use Rattle.std.proofs.Common.{◌≡◌, ℕ, zero, suc, ◌+◌, ◌-◌, ◌≤◌, ◌==◌, List, [], ◌∷◌, ◌++◌, length, length-append, take, map, Option, Some, None, Bool, true, false, true≢false, cond, nat_lt, refl, sym, ap, subst, ◌∙◌, arith}
+use Rattle.std.proofs.Common.{◌≡◌, ℕ, suc, ◌+◌, ◌-◌, ◌≤◌, ◌==◌, List, [], ◌∷◌, ◌++◌, length, length-append, take, map, Option, Some, None, Bool, true, false, true≢false, cond, nat_lt, refl, sym, ap, subst, ◌∙◌, arith}
 use Rattle.std.proofs.lemmas.Bool.Decides.{nat_tests}
-use Rattle.std.specs.List.{AllByRecursion, filter, find}
+use Rattle.std.specs.List.{AllByRecursion}
 use Rattle.std.specs.Option.{option_map}
 use mathlib.Core.List.{IsPrefix}
 use Rattle.txc_tags.specs.declared.tag.Tag.{Tag}
+use Rattle.txc_tags.proofs.All.{all-filter, all-take, all_find, all_weaker}
 use Rattle.txc_db.specs.History.{History, tags_at}
 use Rattle.txc_db.specs.Laws.{TagsStay}
 use Rattle.txc_node.specs.declared.entry.Entry.{Entry}
@@ -30,35 +31,9 @@ use Rattle.txc_shared.proofs.Histories.{cache_push, legal_in_longer, next_stamp}
 
 -- ---- lists
 
-module _ {X : Type 0} (P : X → Type 0) where
-  all_filter : (p : X → Bool) (xs : List X) → AllByRecursion P xs → AllByRecursion P (filter p xs)
-  all_filter p [] h = tt
-  all_filter p (x ∷ xs) h = go (p x) (all_filter p xs h.1)
-    where
-      go : (b : Bool) → AllByRecursion P (filter p xs) → AllByRecursion P (cond b (x ∷ filter p xs) (filter p xs))
-      go true rest = (h.0, rest)
-      go false rest = rest
-
-  all_take : (n : ℕ) (xs : List X) → AllByRecursion P xs → AllByRecursion P (take n xs)
-  all_take zero xs h = tt
-  all_take (suc n) [] h = tt
-  all_take (suc n) (x ∷ xs) h = (h.0, all_take n xs h.1)
-
-  all_find : (p : X → Bool) (xs : List X) (x : X) → AllByRecursion P xs → find p xs ≡ Some x → P x
-  all_find p [] x h is = absurd (cc is)
-  all_find p (y ∷ xs) x h is = go (p y) is (all_find p xs x h.1)
-    where
-      go : (b : Bool) → cond b (Some y) (find p xs) ≡ Some x → (find p xs ≡ Some x → P x) → P x
-      go true here rest = subst P (cc here) h.0
-      go false there rest = rest there
-
 all_map : {X : Type 0} (P Q : X → Type 0) (f : X → X) (xs : List X) → ((x : X) → P x → Q (f x)) → AllByRecursion P xs → AllByRecursion Q (map f xs)
 all_map P Q f [] each h = tt
 all_map P Q f (x ∷ xs) each h = (each x h.0, all_map P Q f xs each h.1)
-
-all_same : {X : Type 0} (P Q : X → Type 0) (xs : List X) → ((x : X) → P x → Q x) → AllByRecursion P xs → AllByRecursion Q xs
-all_same P Q [] each h = tt
-all_same P Q (x ∷ xs) each h = (each x h.0, all_same P Q xs each h.1)
 
 -- ---- longer histories
 
@@ -71,8 +46,8 @@ shown_longer longer next L M p e begins h = record { some = h.some; true_as_show
 
 true_longer : TrueInLonger → TagsStay → (next : Next) (L M : History) (c : Cache) → IsPrefix L M → IsTrueCache next L c → IsTrueCache next M c
 true_longer longer stay next L M c begins h = record {
-  entries = all_same (IsShownTrue next L c.processed) (IsShownTrue next M c.processed) c.entries
-      (λ e s. shown_longer longer next L M c.processed e begins s) h.entries;
+  entries = all_weaker (IsShownTrue next L c.processed) (IsShownTrue next M c.processed)
+      (λ e s. shown_longer longer next L M c.processed e begins s) c.entries h.entries;
   recent = record {
     before = h.recent.before;
     upto = h.recent.upto;
@@ -116,14 +91,14 @@ with_entries next L c es h all =
 used : (next : Next) (L : History) (c : Cache) (f : Option Entry) → ((e : Entry) → f ≡ Some e → IsShownTrue next L c.processed e) → IsTrueCache next L c → IsTrueCache next L (after_use c f)
 used next L c None each h = h
 used next L c (Some e) each h =
-    with_entries next L c (e ∷ others e c.entries) h (each e refl, all_filter (IsShownTrue next L c.processed) _ c.entries h.entries)
+    with_entries next L c (e ∷ others e c.entries) h (each e refl, all-filter (IsShownTrue next L c.processed) _ c.entries h.entries)
 
 inserted : TrueAfterReplay → (next : Next) (L : History) (c : Cache) (e : Entry) → IsTrueIn next L e → e.reach.lo ≤ e.reach.known → IsTrueCache next L c
     → (b : Bool) → IsTrueCache next L (cond b c (record c { entries = take c.capacity (entries_with c e) }))
 inserted replay next L c e is some h true = h
 inserted replay next L c e is some h false =
-    with_entries next L c (take c.capacity (entries_with c e)) h (all_take (IsShownTrue next L c.processed) c.capacity (entries_with c e)
-    (replay next L c e is some h.recent h.within, all_filter (IsShownTrue next L c.processed) _ c.entries h.entries))
+    with_entries next L c (take c.capacity (entries_with c e)) h (all-take (IsShownTrue next L c.processed) c.capacity (entries_with c e)
+    (replay next L c e is some h.recent h.within, all-filter (IsShownTrue next L c.processed) _ c.entries h.entries))
 
 event_taken : TrueAfterEvent → (next : Next) (L : History) (c : Cache) (stamp : ℕ) (tags : List Tag) → stamp ≡ suc c.processed → stamp ≤ length L → tags ≡ tags_at L stamp
     → IsTrueCache next L c → IsTrueCache next L (after_event c stamp tags)
@@ -154,9 +129,9 @@ true_after event replay next L c (ops.Event stamp tags) h may =
     let is = next_stamp c stamp (stamp == c.processed + 1) refl may.possible in
     event_taken event next L c stamp tags (omega (arith, is)) may.event.0 may.event.1 h
 true_after event replay next L c (ops.Sweep horizon) h may =
-    with_entries next L c _ h (all_filter (IsShownTrue next L c.processed) _ c.entries h.entries)
+    with_entries next L c _ h (all-filter (IsShownTrue next L c.processed) _ c.entries h.entries)
 true_after event replay next L c (ops.Trim most) h may =
-    with_entries next L c _ h (all_take (IsShownTrue next L c.processed) (staying_count most c.entries) c.entries h.entries)
+    with_entries next L c _ h (all-take (IsShownTrue next L c.processed) (staying_count most c.entries) c.entries h.entries)
 
 run_goes_on : (next : Next) (L : History) (start : Cache) (rs : List Record) (c : Cache) (pass : ℕ) (op : Op) → IsRun L start rs c → MayStep next L c op
     → IsRun L start (rs ++ next_record pass rs op (step_reply c op) ∷ []) (after_step c op)

@@ -10,7 +10,7 @@ use Rattle.txc_node.specs.declared.reply.Reply.TheVariants as replies
 use Rattle.txc_node.specs.Steps.{step_reply}
 use Rattle.txc_shared.specs.declared.advanced.Advanced.TheVariants.{Taken}
 use Rattle.txc_shared.specs.declared.error.NodeError.{NodeError}
-use Rattle.txc_shared.specs.declared.error.NodeError.TheVariants as errors
+use Rattle.txc_shared.specs.declared.error.NodeError.TheVariants.{HistoryFull}
 use Rattle.txc_shared.specs.Histories.{records_of, next_record}
 use Rattle.txc_shared.specs.Nodes.{NodeValue, seeing, next_event, HasAdvanced}
 use Rattle.txc_shared.specs.Passes.{PassValue, HasGrown, GrowsByOthers, HasTaken, HasTakenEach, IsPassLeft}
@@ -114,11 +114,8 @@ more_of_its_own row old p q n m seen taken stamp closed grown (inr ends) made go
 
 -- a refusal shows records of others at most
 pub left_by_others : (name : Name) (old new : PassValue) (e : NodeError) → IsPassLeft name old new e → GrowsByOthers old.pass old.records new.records
-left_by_others name old new errors.HistoryFull left = left.0
-left_by_others name old new errors.Broken left = subst (λ (p : PassValue). GrowsByOthers old.pass old.records p.records) (sym left) (grows_by_none old.pass old.records)
-left_by_others name old new errors.EmptyRange left = subst (λ (p : PassValue). GrowsByOthers old.pass old.records p.records) (sym left) (grows_by_none old.pass old.records)
-left_by_others name old new errors.PassesFull left = subst (λ (p : PassValue). GrowsByOthers old.pass old.records p.records) (sym left) (grows_by_none old.pass old.records)
-left_by_others name old new errors.Memory left = subst (λ (p : PassValue). GrowsByOthers old.pass old.records p.records) (sym left) (grows_by_none old.pass old.records)
+left_by_others name old new HistoryFull left = left.0
+left_by_others name old new e left = subst (λ (p : PassValue). GrowsByOthers old.pass old.records p.records) (sym left) (grows_by_none old.pass old.records)
 
 -- what was taken stands together, whatever others did after it
 pub stand_together : (old p q : PassValue) (n : NodeValue) (taken : ℕ) → HasGrown old p → EndsWithOwn old p n taken

@@ -1,5 +1,5 @@
 -- Words for what is done under the lock, which only this crate's private functions promise.
-use Rattle.std.specs.Prelude.{◌≡◌, ℕ, ◌+◌, ◌^◌, ◌<◌, ◌≤◌, false, List, length}
+use Rattle.std.specs.Prelude.{◌≡◌, ℕ, ◌+◌, ◌^◌, ◌<◌, ◌≤◌, false, List, length, Result, IfErr}
 use mathlib.Core.List.{IsPrefix}
 use Rattle.txc_stream.specs.Names.{Name, HasRow}
 use Rattle.txc_db.specs.FrontsAndFeeds.{taken_at_start}
@@ -13,7 +13,8 @@ use Rattle.txc_shared.specs.declared.prepared.Prepared.{Prepared}
 use Rattle.txc_shared.specs.declared.prepared.Prepared.TheVariants.{Stored, Unstored}
 use Rattle.txc_shared.specs.Histories.{records_of}
 use Rattle.txc_shared.specs.Nodes.{NodeValue, IsHistoryFull, HasRecordRoom}
-use Rattle.txc_shared.specs.Passes.{PassValue}
+use Rattle.txc_shared.specs.Passes.{PassValue, HasGrown, IsPassLeft}
+use Rattle.txc_shared.specs.Refusals.{IsNodeLeft, IsRefusedThrough}
 
 -- invariant of the content of a node's lock: the node's history and the database's are the named ones; it began
 -- where a feed does; and, unless it is broken, it took as many events as were taken from the feed
@@ -34,6 +35,16 @@ pub record IsAhead (n : NodeValue) (p : PassValue) : Type 0 where
 pub record IsAdmitted (n : NodeValue) (p : PassValue) : Type 0 where
   pub ahead : IsAhead n p
   pub turn : records_of p.pass n.records ≡ records_of p.pass p.records
+
+-- A call through a pass, whatever it returns: the node's history has the name of its number, and the pass has seen
+-- no less than before. After an error, which the node or the pass may give, each is left as that error says.
+pub record IsStepThrough {T : Type 0} (refused : NodeValue → NodeError → Type 0) (histories : ℕ → Name)
+    (old new : NodeValue) (before after : PassValue) (result : Result T NodeError) : Type 0 where
+  pub named : old.name ≡ histories old.settings.number
+  pub longer : HasGrown before after
+  pub unchanged : IfErr result (IsNodeLeft old new)
+  pub refused : IfErr result (IsRefusedThrough refused old before)
+  pub left : IfErr result (IsPassLeft (histories before.settings.number) before after)
 
 -- ---- records
 

@@ -10,8 +10,8 @@ ghost use Rattle.txc_node.specs.Steps.{found_reply};
 ghost use Rattle.txc_app.specs.Claims.{IsTrueIn, entry_shown};
 ghost use Rattle.txc_shared.specs.Nodes.{NodeValue, IsHistoryFull, after_call, seeing, HasAdvanced};
 ghost use Rattle.txc_shared.specs.Passes.{PassValue, HasGrown, HasSeen, DoAgree, GrowsByOthers, HasMade, HasInserted, HasTaken, IsPassLeft};
-ghost use Rattle.txc_shared.specs.Refusals.{IsLookupRefused, IsStepRefused, IsTidyRefused, IsTakingRefused, IsCountRefused, IsNodeLeft, IsRefusedThrough, IsNewPassRefused};
-ghost use Rattle.txc_shared.specs.LockedNode.{IsAhead, IsAdmitted, LiesUnderLock};
+ghost use Rattle.txc_shared.specs.Refusals.{IsLookupRefused, IsStepRefused, IsTidyRefused, IsTakingRefused, IsCountRefused, IsNodeLeft, IsNewPassRefused};
+ghost use Rattle.txc_shared.specs.LockedNode.{IsAhead, IsAdmitted, IsStepThrough, LiesUnderLock};
 ghost use Rattle.txc_shared.specs.EventBatch.{HasTakenMany, StandTogether};
 
 use crate::advanced::{Advanced, Ended, MAX_TOGETHER};
@@ -173,15 +173,11 @@ impl<A: App, J: Naming> Held<A, J> {
 
     /// Returns the counts of the node's records, and shows these to the pass.
     pub(crate) fn node_counts(&mut self, pass: &mut NodePass<J>) -> Result<Counts, NodeError>
-        ensures named { self.old.name ≡ J.node_histories self.old.settings.number }
+        ensures step { IsStepThrough IsCountRefused J.node_histories self.old self.new pass.old pass.new result }
         ensures after { OnOk result (self.new ≡ self.old) }
-        ensures unchanged { IfErr result (IsNodeLeft self.old self.new) }
-        ensures refused { IfErr result (IsRefusedThrough IsCountRefused self.old pass.old) }
-        ensures longer { HasGrown pass.old pass.new }
         ensures shown { OnOk result (pass.new.records ≡ self.new.records) }
         ensures others { OnOk result (GrowsByOthers pass.old.pass pass.old.records pass.new.records) }
         ensures counts { IfOk result (AreCountsOf pass.new.records) }
-        ensures left { IfErr result (IsPassLeft (J.node_histories pass.old.settings.number) pass.old pass.new) }
     {
         self.admit(pass)?;
         let Some(counts) = self.node.counts() else {
@@ -202,18 +198,14 @@ impl<A: App, J: Naming> Held<A, J> {
         lo: Stamp,
         hi: Stamp,
     ) -> Result<Option<Answered<HitValue>>, NodeError>
-        ensures named { self.old.name ≡ J.node_histories self.old.settings.number }
+        ensures step { IsStepThrough (λ n. IsLookupRefused n lo hi) J.node_histories self.old self.new pass.old pass.new result }
         ensures after { OnOk result (self.new ≡ after_call self.old pass.old.pass (Lookup key.now lo hi)) }
-        ensures unchanged { IfErr result (IsNodeLeft self.old self.new) }
-        ensures refused { IfErr result (IsRefusedThrough (λ n. IsLookupRefused n lo hi) self.old pass.old) }
-        ensures longer { HasGrown pass.old pass.new }
         ensures made { IfOk result (λ found.
             HasMade pass.old pass.new (Lookup key.now lo hi) (found_reply (option_map (λ f. f.answer) found))) }
         ensures right { IfOk result (λ found. IfSome found (λ f.
             IsTrueIn A.next f.front.history (entry_shown key.now f.answer))) }
         ensures front { IfOk result (λ found. IfSome found (λ f. f.front.events ≡ J.database_history)) }
         ensures shown { IfOk result (λ found. IfSome found (λ f. IsPrefix f.front.history pass.new.history)) }
-        ensures left { IfErr result (IsPassLeft (J.node_histories pass.old.settings.number) pass.old pass.new) }
     {
         self.admit(pass)?;
         match self.node.lookup(alloc, pass.pass, key, lo, hi) {
@@ -236,16 +228,12 @@ impl<A: App, J: Naming> Held<A, J> {
     ) -> Result<Insertion, NodeError>
         requires row { front.now.events ≡ J.database_history }
         requires is_true { IsTrueIn A.next front.now.history entry }
-        ensures named { self.old.name ≡ J.node_histories self.old.settings.number }
+        ensures step { IsStepThrough IsStepRefused J.node_histories self.old self.new pass.old pass.new result }
         ensures after { OnOk result
             (self.new ≡ after_call (seeing self.old self.new.seen) pass.old.pass (Insert entry)) }
         ensures seen { OnOk result (IsPrefix front.now.history self.new.seen.history) }
-        ensures unchanged { IfErr result (IsNodeLeft self.old self.new) }
-        ensures refused { IfErr result (IsRefusedThrough IsStepRefused self.old pass.old) }
-        ensures longer { HasGrown pass.old pass.new }
         ensures made { IfOk result (HasInserted pass.old pass.new entry) }
         ensures shown { OnOk result (IsPrefix front.now.history pass.new.history) }
-        ensures left { IfErr result (IsPassLeft (J.node_histories pass.old.settings.number) pass.old pass.new) }
     {
         prefix_of_prefix::<Event>();
         self.admit(pass)?;
@@ -266,14 +254,10 @@ impl<A: App, J: Naming> Held<A, J> {
         alloc: Global,
         pass: &mut NodePass<J>,
     ) -> Result<Advanced, NodeError>
-        ensures named { self.old.name ≡ J.node_histories self.old.settings.number }
+        ensures step { IsStepThrough IsTakingRefused J.node_histories self.old self.new pass.old pass.new result }
         ensures after { IfOk result (HasAdvanced (seeing self.old self.new.seen) pass.old.pass self.new) }
-        ensures unchanged { IfErr result (IsNodeLeft self.old self.new) }
-        ensures refused { IfErr result (IsRefusedThrough IsTakingRefused self.old pass.old) }
-        ensures longer { HasGrown pass.old pass.new }
         ensures taken { IfOk result (HasTaken J.database_history pass.old pass.new) }
         ensures shown { OnOk result (pass.new.records ≡ self.new.records) }
-        ensures left { IfErr result (IsPassLeft (J.node_histories pass.old.settings.number) pass.old pass.new) }
     {
         legal_histories();
         prefix_of_prefix::<Event>();
@@ -330,13 +314,9 @@ impl<A: App, J: Naming> Held<A, J> {
         pass: &mut NodePass<J>,
         horizon: Stamp,
     ) -> Result<usize, NodeError>
-        ensures named { self.old.name ≡ J.node_histories self.old.settings.number }
+        ensures step { IsStepThrough IsTidyRefused J.node_histories self.old self.new pass.old pass.new result }
         ensures after { OnOk result (self.new ≡ after_call self.old pass.old.pass (Sweep horizon)) }
-        ensures unchanged { IfErr result (IsNodeLeft self.old self.new) }
-        ensures refused { IfErr result (IsRefusedThrough IsTidyRefused self.old pass.old) }
-        ensures longer { HasGrown pass.old pass.new }
         ensures made { IfOk result (λ count. HasMade pass.old pass.new (Sweep horizon) (Swept count)) }
-        ensures left { IfErr result (IsPassLeft (J.node_histories pass.old.settings.number) pass.old pass.new) }
     {
         self.admit(pass)?;
         match self.node.sweep(alloc, pass.pass, horizon) {
@@ -356,13 +336,9 @@ impl<A: App, J: Naming> Held<A, J> {
         pass: &mut NodePass<J>,
         most: usize,
     ) -> Result<usize, NodeError>
-        ensures named { self.old.name ≡ J.node_histories self.old.settings.number }
+        ensures step { IsStepThrough IsTidyRefused J.node_histories self.old self.new pass.old pass.new result }
         ensures after { OnOk result (self.new ≡ after_call self.old pass.old.pass (Trim most)) }
-        ensures unchanged { IfErr result (IsNodeLeft self.old self.new) }
-        ensures refused { IfErr result (IsRefusedThrough IsTidyRefused self.old pass.old) }
-        ensures longer { HasGrown pass.old pass.new }
         ensures made { IfOk result (λ count. HasMade pass.old pass.new (Trim most) (Trimmed count)) }
-        ensures left { IfErr result (IsPassLeft (J.node_histories pass.old.settings.number) pass.old pass.new) }
     {
         self.admit(pass)?;
         match self.node.trim(alloc, pass.pass, most) {

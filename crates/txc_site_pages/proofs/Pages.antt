@@ -1,5 +1,5 @@
 -- One call of a page more, and what the calls of a page leave at a node.
-use Rattle.std.proofs.Common.{◌≡◌, ◌∙◌, ℕ, zero, suc, List, [], ◌∷◌, ◌++◌, slice_get, Option, Some, Result, Ok, Err, refl, sym, ap, subst, append-nil, append_assoc}
+use Rattle.std.proofs.Common.{◌≡◌, ◌∙◌, ℕ, zero, suc, List, [], ◌∷◌, ◌++◌, slice_get, Option, Some, Result, Ok, Err, refl, sym, ap, subst, append-nil}
 use Rattle.std.specs.Prelude.{IfOk, IsOk, OnErr, OnOk}
 use Rattle.std.specs.List.{filter}
 use Rattle.std.proofs.lemmas.List.Elements.{filter-append}
@@ -8,26 +8,23 @@ use Rattle.txc_tags.specs.Keys.{Call}
 use Rattle.txc_db.specs.History.{History}
 use Rattle.txc_cushion.specs.declared.pin.Pin.{Pin}
 use Rattle.txc_app.specs.Eval.{Next}
-use Rattle.txc_node.specs.declared.record.Record.{Record}
 use Rattle.txc_shared.specs.Passes.{PassValue}
 use Rattle.txc_txn_ports.specs.declared.bounds.Bounds.{Bounds}
 use Rattle.txc_txn_ports.specs.declared.error.TxnError.{TxnError}
 use Rattle.txc_txn_ports.specs.declared.recorded.Recorded.{Recorded}
 use Rattle.txc_txn_ports.specs.Exchanges.{Exchange}
-use Rattle.txc_txn.specs.TxnCore.{CoreValue, Explains, KeepsSettings}
+use Rattle.txc_txn.specs.TxnCore.{Explains, KeepsSettings}
 use Rattle.txc_txn.specs.Sessions.{IsAtLeast}
-use Rattle.txc_txn_client.specs.Laws.{asks, own_records, AreLeftBy, HasAdded}
+use Rattle.txc_txn_client.specs.Laws.{asks, HasAdded}
 use Rattle.txc_txn_client.specs.Ports.{HaveGrown}
 use Rattle.txc_txn_client.specs.Run.{HasRun}
 use Rattle.txc_txn_client.specs.RoTxn.{ClientValue, RoTxnValue, client_of}
 pub use Rattle.txc_txn_client.proofs.Grown.{have_grown_self, have_grown_then}
-use Rattle.txc_txn_client.proofs.Standing.{each_call_is_recorded_once}
+use Rattle.txc_txn_client.proofs.Standing.{each_call_is_recorded_once, added_none, added_both}
+use Rattle.txc_txn_client.proofs.Turns.{settings_then}
 use Rattle.txc_site_pages.specs.declared.error.ReadError.TheVariants as reads
 use Rattle.txc_site_ledger.specs.declared.run_error.RunError.{RunError}
 use Rattle.txc_site_pages.specs.Pages.{answer_of, answers_of, exchanges_of, last_bounds, HasCalled, HaveCalled, IsLeftByRefused, IsPageRun, MadeCall, PageStepsAreItsCalls}
-
-settings_stay : (a b c : CoreValue) → KeepsSettings a b → KeepsSettings b c → KeepsSettings a c
-settings_stay a b c h k = record { bounds = k.bounds ∙ h.bounds; renew_after = k.renew_after ∙ h.renew_after; nodes = k.nodes ∙ h.nodes }
 
 module _ (next : Next) (row : Name) (histories : ℕ → Name) where
   module _ (client : ClientValue) (bounds : Bounds) where
@@ -69,7 +66,7 @@ module _ (next : Next) (row : Name) (histories : ℕ → Name) where
         none = before.none;
         made = (old, before.made, run, grown);
         answered = one_answered_more before.calls result before.answered is same;
-        settings = settings_stay before.first.txn.core old.txn.core new.txn.core before.settings settings;
+        settings = settings_then before.first.txn.core old.txn.core new.txn.core before.settings settings;
         functions = functions ∙ before.functions;
       }
 
@@ -116,22 +113,6 @@ module _ (next : Next) (row : Name) (histories : ℕ → Name) where
     page_refused left answers cause ran = (answers, ran)
 
   -- ---- all calls at a node
-
-  left_both : (a b : List Exchange) (one two : List Record) → AreLeftBy a one → AreLeftBy b two → AreLeftBy (a ++ b) (one ++ two)
-  left_both [] b one two h k = subst (λ (l : List Record). AreLeftBy b (l ++ two)) (sym h) k
-  left_both (x ∷ a) b one two h k =
-      (h.0, h.1 ++ two, ap (λ (l : List Record). l ++ two) h.2 ∙ append_assoc h.0 h.1 two, h.3, left_both a b h.1 two h.4 k)
-
-  added_none : (p : PassValue) → HasAdded [] p p
-  added_none p = record { same = refl; made = []; left = refl; own = sym (append-nil (own_records p)) }
-
-  added_both : (p q r : PassValue) (a b : List Exchange) → HasAdded a p q → HasAdded b q r → HasAdded (a ++ b) p r
-  added_both p q r a b one two = record {
-    same = two.same ∙ one.same;
-    made = one.made ++ two.made;
-    left = left_both a b one.made two.made one.left two.left;
-    own = two.own ∙ ap (λ (l : List Record). l ++ two.made) one.own ∙ append_assoc (own_records p) one.made two.made;
-  }
 
   -- the pass at the same place
   grown_at : (node : ℕ) (olds news : List PassValue) (p : PassValue) → HaveGrown olds news → slice_get olds node ≡ Some p

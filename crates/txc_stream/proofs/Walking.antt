@@ -1,16 +1,14 @@
 -- What a walker has found.
 use Rattle.std.proofs.Common.{◌≡◌, ℕ, ◌+◌, ◌⊎◌, List, [], ◌∷◌, ◌++◌, length, Some, slice_get, sym, ap, ◌∙◌, length-append, arith}
+use Rattle.std.proofs.lemmas.Option.{same_Some}
 use mathlib.Core.List.{IsPrefix}
 use Rattle.txc_stream.proofs.Offered.{push_get, shorter_begins}
-
-some_same : {A : Type 0} (x y : A) → Some x ≡ Some y → x ≡ y
-some_same x y e = cc e
 
 -- the last of those that were read
 pub last_read : {A : Type 0} (earlier : List A) (x y : A) (at : ℕ) → at + 1 ≡ length (earlier ++ x ∷ []) → slice_get (earlier ++ x ∷ []) at ≡ Some y → y ≡ x
 last_read earlier x y at end is =
     let place : at ≡ length earlier = omega (arith, end, length-append earlier (x ∷ [])) in
-    some_same y x (sym is ∙ ap (slice_get (earlier ++ x ∷ [])) place ∙ push_get earlier x)
+    same_Some y x (sym is ∙ ap (slice_get (earlier ++ x ∷ [])) place ∙ push_get earlier x)
 
 -- a list that goes on from another and has one more
 one_more : {A : Type 0} (xs ys rest : List A) → xs ++ rest ≡ ys → length ys ≡ length xs + 1 → (x : A) × (ys ≡ xs ++ x ∷ [])

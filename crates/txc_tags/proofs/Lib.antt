@@ -1,4 +1,5 @@
 pub mod Lists
+pub mod All
 pub mod TagOrder
 pub mod TagSets
 pub mod Placing

@@ -11,7 +11,7 @@ none_any : (p : Tag → Bool) (xs : List Tag) → ((x : Tag) → IsIn x xs → p
 none_any p [] h = refl
 none_any p (x ∷ xs) h = rw (h x (inl refl), none_any p xs (λ y k. h y (inr k))) refl
 
-match_nothing : (xs : List Tag) → sets_match xs [] ≡ false
+pub match_nothing : (xs : List Tag) → sets_match xs [] ≡ false
 match_nothing [] = refl
 match_nothing (x ∷ xs) = match_nothing xs
 

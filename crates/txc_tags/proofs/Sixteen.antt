@@ -319,7 +319,7 @@ keeps_itself set c table =
 pub set_of_set : (set : List Tag) → IsCanonical set → set_of set ≡ set
 set_of_set set c = one_set set (set_of set) set (set_canonical set) c (keeps_sixteen set) (keeps_itself set c)
 
-with_tags_append : (xs ys set : List Tag) → with_tags (xs ++ ys) set ≡ with_tags ys (with_tags xs set)
+pub with_tags_append : (xs ys set : List Tag) → with_tags (xs ++ ys) set ≡ with_tags ys (with_tags xs set)
 with_tags_append [] ys set = refl
 with_tags_append (a ∷ xs) ys set = with_tags_append xs ys (with_tag a set)
 

@@ -20,9 +20,10 @@ use Rattle.txc_call.specs.declared.need.Need.{Need}
 use Rattle.txc_call.specs.declared.need.Need.TheVariants as needs
 use Rattle.txc_call.specs.declared.need.Outcome.{Outcome}
 use Rattle.txc_call.specs.Reaches.{InReach}
-use Rattle.txc_call.specs.Frames.{released, FramesHold, IsStack}
+use Rattle.txc_call.specs.Frames.{FramesHold}
 use Rattle.txc_call.specs.Needs.{NeedFits, NeedHolds, reach_of}
 use Rattle.txc_call.specs.CallMachine.{Calling, CallHolds, CallIsUnreached, InCall, IsCalling}
+use Rattle.txc_call.proofs.Offered.{value_fits}
 use Rattle.txc_cushion.specs.declared.pins.Pins.{Pins}
 use Rattle.txc_txn_ports.specs.declared.reply.PortReply.{PortReply}
 use Rattle.txc_txn_ports.specs.declared.reply.PortReply.TheVariants as ports
@@ -125,14 +126,6 @@ module _ (keeps : KeepsExactlyTheHeld) (never : NeverIsEmpty) (next : Next) (obj
   }
 
 -- ---- the value of a call
-
--- what a call is done with is all that is left of it
-value_fits : (next : Next) (objects : Objects) (top : Call) (need : Option Need) (frames : List Frame) (o : Outcome) → need ≡ Some (needs.Value o) → NeedFits next objects top need frames
-    → (frames ≡ []) × AllIdle objects × (o.key ≡ top)
-value_fits next objects top need frames o is h =
-    let done = subst (λ (n : Option Need). NeedFits next objects top n frames) is h in
-    let at_bottom : asks.Call o.key ≡ asks.Call top = subst (λ (fs : List Frame). IsStack next objects top (asks.Call o.key) fs) done.1 done.0.open_frames.stack in
-    (done.1, subst (λ (fs : List Frame). AllIdle (released fs objects)) done.1 done.0.open_frames.free, cc)
 
 module _ (next : Next) (objects : Objects) (c : CoreValue) (o : Outcome) (is : c.call.need ≡ Some (needs.Value o)) where
   pub holds_recorded : (L : History) → CoreHolds next L objects c → CoreHolds next L objects (record c { recorded = c.recorded ++ record { key = o.key; value = o.value } ∷ []; call = record c.call { need = None } })

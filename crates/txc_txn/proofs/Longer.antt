@@ -1,6 +1,5 @@
 -- What holds in a history holds in a longer one.
 use Rattle.std.proofs.Common.{◌≡◌, ℕ, zero, suc, ◌≤◌, List, [], ◌∷◌, ◌++◌, length, length-append, Option, Some, None, Ok, Err, slice_get, refl, sym, ap, subst, ◌∙◌, arith}
-use Rattle.std.proofs.lemmas.Option.{slice_get_within}
 use mathlib.Core.List.{IsPrefix}
 use Rattle.txc_stamp.specs.Interval.{Interval}
 use Rattle.txc_tags.specs.declared.tag.Tag.{Tag}
@@ -42,15 +41,6 @@ moment_more L more (suc t) m is = go (slice_get L t) refl is
     go : (o : Option EventValue) → slice_get L t ≡ o → pinned_moment o ≡ Some m → pinned_moment (slice_get (L ++ more) t) ≡ Some m
     go None there has = cc has
     go (Some e) there has = ap pinned_moment (get_more L more t e there) ∙ has
-
--- the stamp of a pin is not beyond the history
-pub pin_within : (L : History) (t m : ℕ) → moment_at L t ≡ Some m → t ≤ length L
-pin_within L zero m is = cc is
-pin_within L (suc t) m is = go (slice_get L t) refl is
-  where
-    go : (o : Option EventValue) → slice_get L t ≡ o → pinned_moment o ≡ Some m → suc t ≤ length L
-    go None there has = cc has
-    go (Some e) there has = let within = slice_get_within L t e there in omega (arith, within)
 
 module _ (stay : StatesStay) (L M : History) (begins : IsPrefix L M) where
   -- the state of a stamp that L has

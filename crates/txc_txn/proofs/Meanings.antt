@@ -6,6 +6,7 @@ use Rattle.txc_tags.specs.Keys.{Call}
 use Rattle.txc_rows.specs.States.{State}
 use Rattle.txc_db.specs.History.{History, state_at}
 use Rattle.txc_db.specs.Laws.{StatesStay}
+use Rattle.txc_db.proofs.Histories.{pin_within}
 use Rattle.txc_cushion.specs.declared.pin.Pin.{Pin}
 use Rattle.txc_pinset.specs.Members.{PinSetValue, kept, narrowed}
 use Rattle.txc_pinset.specs.Laws.{KeepsExactlyTheHeld, NeverIsEmpty}
@@ -31,7 +32,7 @@ use Rattle.txc_txn_ports.specs.declared.recorded.Recorded.{Recorded}
 use Rattle.txc_txn_ports.specs.Answers.{IsFresh, AreConsistent}
 use Rattle.txc_txn.specs.Meaning.{PinSetInvariant, LieWithin}
 use Rattle.txc_txn.specs.Laws.{MeaningStays, MeaningBegins, FindingNarrows, QueryLeavesAMember, PresentJoins, PresentIsFresh, FewerMembersMeanTheSame, CallBegins, CallIsGivenUp, ValueIsRecorded, FramesAreRight, OpenAnswersAreRight, NewestExplains, UnreachedAnswersAreValues, IsValueAnswer}
-use Rattle.txc_txn.proofs.Longer.{pin_within, same_state, fresh_later, need_later}
+use Rattle.txc_txn.proofs.Longer.{same_state, fresh_later, need_later}
 
 -- ---- lists
 

@@ -25,13 +25,14 @@ use Rattle.txc_txn_ports.specs.declared.reply.PortReply.TheVariants as replies
 use Rattle.txc_txn_ports.specs.Turns.{PortTurn}
 use Rattle.txc_txn_ports.specs.declared.turn.Turn.TheVariants as turns
 use Rattle.txc_txn_ports.specs.Fronts.{front_of_reply}
-use Rattle.txc_txn.specs.TxnCore.{CoreValue, AddsOnly, HoldsNewest, IsAnswered, CoreAsks, IsNoAdding}
+use Rattle.txc_txn.specs.TxnCore.{CoreValue, AddsOnly, HoldsNewest, IsAnswered, CoreAsks, IsNoAdding, IsNoValue, recorded_after}
 use Rattle.txc_txn.specs.Transitions.{ReplyTransition}
 use Rattle.txc_txn.specs.RunningTxn.{TxnValue, IsTxn, IsShownRight}
 use Rattle.txc_txn_ports.specs.PortRequests.{AddsSuch, TurnAddsSuch, IsAnsweredRight, IsReplyTo, MayAsk}
 use Rattle.txc_txn_ports.specs.Exchanges.{Exchange, reply_of, request_of}
 use Rattle.txc_txn_ports.specs.Exchanges as exchanges
 use Rattle.txc_txn_ports.proofs.Offered.{by_exchange}
+use Rattle.txc_txn_ports.specs.declared.recorded.Recorded.{Recorded}
 
 -- ---- a pin that is to be added
 
@@ -137,3 +138,11 @@ module _ (next : Next) (t : TxnValue) where
   pub is_right : (request : PortRequest) (reply : PortReply) → CoreAsks t.core request → IsReplyTo next request reply → IsShownRight next t reply
   is_right request reply asking to =
       by_exchange (IsAnsweredRight next) (λ (q : PortRequest) (r : PortReply). CoreAsks t.core q → IsShownRight next t r) shown_right request reply to asking
+
+-- ---- what is recorded
+
+-- only a value is
+pub none_recorded : (recorded : List Recorded) (turn : PortTurn) (k : Option Call) → IsNoValue turn → recorded_after recorded turn k ≡ recorded
+none_recorded recorded (turns.Ask request) k none = refl
+none_recorded recorded (turns.Ended (Ok value)) k none = absurd none
+none_recorded recorded (turns.Ended (Err error)) k none = refl

@@ -68,11 +68,6 @@ module _ (node_histories : ℕ → Name) (old new : PassValue) where
     left = subst (λ (q : Result Totals NodeError). IfErr q (IsPassLeft (node_histories old.settings.number) old new)) is left;
   }
 
--- what holds of what a lookup found holds of what the node has
-pub found_so : (P : Answered HitValue → Type 0) (r : Result (Option (Answered HitValue)) NodeError) → IfOk r (λ o. IfSome o P) → IfSome (result_unwrap_or r None) P
-found_so P (Ok o) h = h
-found_so P (Err e) h = tt
-
 -- a hit that is true of the call, and of the row, as the reply to a lookup
 pub right_hit : (next : Next) (node : ℕ) (key : Call) (lo hi : ℕ) (hit : Option (Answered HitValue)) → IfSome hit (λ h. IsTrueIn next h.front.history (entry_shown key h.answer))
     → IsReplyTo next (requests.Lookup node key lo hi) (replies.Lookup hit)

@@ -3,6 +3,7 @@ use Rattle.std.proofs.Common.{◌≡◌, ◌∙◌, ℕ, zero, suc, List, [], �
 use mathlib.Core.List.{IsPrefix}
 use Rattle.txc_shared.specs.declared.settings.NodeSettings.{NodeSettings}
 use Rattle.txc_shared.specs.Passes.{PassValue, HasGrown}
+use Rattle.txc_shared.proofs.Together.{grown_self, grown_then}
 use Rattle.txc_txn_client.specs.Ports.{HaveGrown}
 
 module _ {X : Type 0} where
@@ -11,16 +12,6 @@ module _ {X : Type 0} where
 
   pub prefix_then : (xs ys zs : List X) → IsPrefix xs ys → IsPrefix ys zs → IsPrefix xs zs
   prefix_then xs ys zs a b = (a.0 ++ b.0, sym (append_assoc xs a.0 b.0) ∙ ap (λ (l : List X). l ++ b.0) a.1 ∙ b.1)
-
-pub grown_self : (p : PassValue) → HasGrown p p
-grown_self p = record { is = refl; records = prefix_self p.records; history = prefix_self p.history }
-
-pub grown_then : (p q r : PassValue) → HasGrown p q → HasGrown q r → HasGrown p r
-grown_then p q r a b = record {
-  is = b.is ∙ ap (λ (w : PassValue). record w { own = r.own; records = r.records; history = r.history }) a.is;
-  records = prefix_then p.records q.records r.records a.records b.records;
-  history = prefix_then p.history q.history r.history a.history b.history;
-}
 
 pub have_grown_self : (ps : List PassValue) → HaveGrown ps ps
 have_grown_self [] = tt

@@ -1,14 +1,14 @@
 -- What a caller reads in a session.
-use Rattle.std.proofs.Common.{◌≡◌, inl, inr, ℕ, zero, suc, ◌≤◌, List, [], ◌∷◌, ◌++◌, length, take, Option, Some, None, refl, sym, ap, subst, ◌∙◌, arith}
-use Rattle.std.specs.Prelude.{slice_get, option_map, IfSome}
+use Rattle.std.proofs.Common.{◌≡◌, inl, inr, ℕ, zero, suc, ◌≤◌, List, [], ◌∷◌, length, take, Option, Some, None, refl, ap, subst, arith}
+use Rattle.std.specs.Prelude.{option_map, IfSome}
 use Rattle.std.specs.List.{AllByRecursion}
-use Rattle.std.proofs.lemmas.Option.{slice_get_within}
 use mathlib.Core.List.{IsPrefix}
 use Rattle.txc_stream.proofs.Offered.{prefix_take}
-use Rattle.txc_db.specs.Facts.{EventValue}
-use Rattle.txc_db.specs.History.{History, moment_at, pinned_moment}
+use Rattle.txc_db.specs.History.{History}
+use Rattle.txc_db.proofs.Histories.{pin_within}
 use Rattle.txc_cushion.specs.declared.pin.Pin.{Pin}
 use Rattle.txc_app.specs.Eval.{Next}
+use Rattle.txc_tags.proofs.All.{all_front}
 use Rattle.txc_txn_ports.specs.declared.bounds.Bounds.{Bounds}
 use Rattle.txc_txn_ports.specs.declared.recorded.Recorded.{Recorded}
 use Rattle.txc_txn.specs.TxnCore.{Explains}
@@ -31,15 +31,6 @@ one_history : {A : Type 0} (L K M : List A) (m n : ℕ) → IsPrefix K L → IsP
 one_history L K M m n one other within within' below =
     subst (λ (xs : List _). IsPrefix xs (take n M)) (prefix_take K L m one within)
     (subst (λ (xs : List _). IsPrefix (take m L) xs) (prefix_take M L n other within') (take_longer L m n below))
-
--- a pin that is shown lies within what is seen
-pin_within : (K : History) (t moment : ℕ) → moment_at K t ≡ Some moment → t ≤ length K
-pin_within K zero moment is = omega arith
-pin_within K (suc t) moment is = go (slice_get K t) refl
-  where
-    go : (e : Option EventValue) → slice_get K t ≡ e → suc t ≤ length K
-    go None none = let no : None ≡ Some moment = sym (ap pinned_moment none) ∙ is in cc no
-    go (Some e) some = let below = slice_get_within K t e some in omega (arith, below)
 
 explained_within : (next : Next) (K : History) (bounds : Bounds) (pin : Pin) (answers : List Recorded) → Explains next K bounds (Some pin) answers → pin.stamp ≤ length K
 explained_within next K bounds pin answers h = pin_within K pin.stamp pin.moment h.1.shown
@@ -68,15 +59,11 @@ module _ (next : Next) (L M : History) (n : ℕ) (on : IsPrefix M L) (within : n
     none_newer deeds of.1 (λ stamp among. low stamp (inr among)),
   )
 
-first_of : (P : SessionEvent → Type 0) (before after : List SessionEvent) → AllByRecursion P (before ++ after) → AllByRecursion P before
-first_of P [] after all = tt
-first_of P (deed ∷ deeds) after all = (all.0, first_of P deeds after all.1)
-
 pub sessions_are_monotonic : SessionsAreMonotonic
 sessions_are_monotonic next L deeds of session before after bounds receipt is own = go receipt.pin refl
   where
     among : AllByRecursion (IsOfDatabase next L) before
-    among = first_of (IsOfDatabase next L) before (began bounds ∷ after) (subst (AllByRecursion (IsOfDatabase next L)) is of)
+    among = all_front (IsOfDatabase next L) before (began bounds ∷ after) (subst (AllByRecursion (IsOfDatabase next L)) is of)
 
     go : (pin : Option Pin) → receipt.pin ≡ pin → IfSome (read_by receipt) (λ read. AllByRecursion (IsNoNewer read) before)
     go None none = rw none tt

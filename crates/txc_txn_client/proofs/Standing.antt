@@ -18,7 +18,7 @@ use Rattle.txc_node.specs.declared.reply.Reply.{Reply}
 use Rattle.txc_node.specs.declared.reply.Reply.TheVariants as replies
 use Rattle.txc_app.specs.Eval.{Next}
 use Rattle.txc_shared.specs.declared.error.NodeError.{NodeError}
-use Rattle.txc_shared.specs.declared.error.NodeError.TheVariants.{Broken, EmptyRange, HistoryFull, PassesFull, Memory}
+use Rattle.txc_shared.specs.declared.error.NodeError.TheVariants.{HistoryFull}
 use Rattle.txc_shared.specs.Histories.{records_of, next_record}
 use Rattle.txc_shared.specs.Passes.{PassValue, HasNextRecord, GrowsByOthers, HasGrown, HasMade, IsPassLeft}
 use Rattle.txc_txn_ports.specs.declared.turn.Turn.TheVariants.{Ended}
@@ -74,10 +74,10 @@ left_both (x ∷ a) b one two h k = (
   left_both a b h.1 two h.4 k,
 )
 
-added_none : (p : PassValue) → HasAdded [] p p
+pub added_none : (p : PassValue) → HasAdded [] p p
 added_none p = record { same = refl; made = []; left = refl; own = sym (append-nil (own_records p)) }
 
-added_both : (p q r : PassValue) (a b : List Exchange) → HasAdded a p q → HasAdded b q r → HasAdded (a ++ b) p r
+pub added_both : (p q r : PassValue) (a b : List Exchange) → HasAdded a p q → HasAdded b q r → HasAdded (a ++ b) p r
 added_both p q r a b one two = record {
   same = two.same ∙ one.same;
   made = one.made ++ two.made;
@@ -107,11 +107,8 @@ module _ (old new : PassValue) (grown : HasGrown old new) (x : Exchange) where
   added_no none name e h = added_these [] none (as_before e h ∙ sym (append-nil (own_records old)))
     where
       as_before : (error : NodeError) → IsPassLeft name old new error → made_by old.pass new.records ≡ own_records old
-      as_before Broken left = ap (λ (p : PassValue). made_by old.pass p.records) left
-      as_before EmptyRange left = ap (λ (p : PassValue). made_by old.pass p.records) left
       as_before HistoryFull left = stays old.pass old.records new.records left.0
-      as_before PassesFull left = ap (λ (p : PassValue). made_by old.pass p.records) left
-      as_before Memory left = ap (λ (p : PassValue). made_by old.pass p.records) left
+      as_before error left = ap (λ (p : PassValue). made_by old.pass p.records) left
 
 -- ---- one exchange
 

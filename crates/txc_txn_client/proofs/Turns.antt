@@ -1,20 +1,14 @@
 -- The turns of a call.
-use Rattle.std.proofs.Common.{◌≡◌, List, Option, Some, Ok, Err, refl, sym, ap, subst, ◌∙◌}
+use Rattle.std.proofs.Common.{◌≡◌, List, Option, Some, sym, ap, subst, ◌∙◌}
 use mathlib.Core.List.{IsPrefix}
 use Rattle.txc_tags.specs.Keys.{Call}
 use Rattle.txc_db.specs.History.{History}
 use Rattle.txc_txn_ports.specs.declared.recorded.Recorded.{Recorded}
 use Rattle.txc_txn_ports.specs.declared.request.PortRequest.{PortRequest}
-use Rattle.txc_txn_ports.specs.declared.turn.Turn.TheVariants.{Ask, Ended}
+use Rattle.txc_txn_ports.specs.declared.turn.Turn.TheVariants.{Ask}
 use Rattle.txc_txn_ports.specs.Turns.{PortTurn}
-use Rattle.txc_txn.specs.TxnCore.{CoreValue, recorded_after, IsNoValue, KeepsSettings}
+use Rattle.txc_txn.specs.TxnCore.{CoreValue, recorded_after, KeepsSettings}
 use Rattle.txc_txn_client.proofs.Grown.{prefix_self}
-
--- only a value is recorded
-pub none_recorded : (recorded : List Recorded) (turn : PortTurn) (k : Option Call) → IsNoValue turn → recorded_after recorded turn k ≡ recorded
-none_recorded recorded (Ask request) k none = refl
-none_recorded recorded (Ended (Ok value)) k none = absurd none
-none_recorded recorded (Ended (Err error)) k none = refl
 
 -- a turn after one that asks
 pub recorded_on : (first now : List Recorded) (request : PortRequest) (old new : PortTurn) (k : Call) (called : Option Call) → old ≡ Ask request

@@ -2,11 +2,9 @@
 use Rattle.std.proofs.Common.{◌≡◌, ℕ, List, [], ◌∷◌, ◌++◌, length, get_or, Some, Result, Ok, Err, IfOk, All, refl, subst, arith, length-append}
 use Rattle.std.proofs.lemmas.List.{get_or_push}
 use Rattle.txc_tags.specs.Keys.{Call}
-use Rattle.txc_db.specs.History.{History, moment_at, state_at, IsAllowed}
-use Rattle.txc_cushion.specs.declared.pin.Pin.{Pin}
+use Rattle.txc_db.specs.History.{state_at}
 use Rattle.txc_app.specs.Eval.{Next, eval}
-use Rattle.txc_txn_ports.specs.Answers.{IsFresh, AreConsistent}
-use Rattle.txc_txn_ports.specs.declared.bounds.Bounds.{Bounds}
+use Rattle.txc_txn_ports.specs.Answers.{AreConsistent}
 use Rattle.txc_txn_ports.specs.declared.recorded.Recorded.{Recorded}
 use Rattle.txc_txn_ports.specs.declared.error.TxnError.{TxnError}
 use Rattle.txc_txn_ports.specs.declared.turn.Turn.TheVariants.{Ended}
@@ -32,8 +30,3 @@ pub value_of_result : (next : Next) (c : CoreValue) (old : List Recorded) (k : C
     → c.recorded ≡ recorded_after old (Ended result) (Some k) → IfOk result (IsValueAtMembers next c k)
 value_of_result next c old k (Ok bytes) all is = value_of_last next c old k bytes all is
 value_of_result next c old k (Err error) all is = tt
-
--- pins that a history shows, and that the bounds allow, are fresh
-pub fresh_pins : (L : History) (bounds : Bounds) (pins : List Pin) → All (λ p. moment_at L p.stamp ≡ Some p.moment) pins
-    → All (λ p. IsAllowed L p.stamp bounds.now bounds.staleness bounds.at_least) pins → All (IsFresh L bounds) pins
-fresh_pins L bounds pins shown allowed = λ i d below. record { shown = shown i d below; allowed = allowed i d below }

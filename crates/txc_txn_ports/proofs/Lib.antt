@@ -1,1 +1,3 @@
 pub mod Offered
+pub mod Options
+pub mod Pins

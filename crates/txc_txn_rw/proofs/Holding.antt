@@ -22,17 +22,15 @@ use Rattle.txc_db.specs.Laws.{StatesStay}
 use Rattle.txc_app.specs.declared.ask.Ask.TheVariants as asks
 use Rattle.txc_app.specs.Eval.{Next, eval}
 use Rattle.txc_app.specs.Claims.{RowsHold, ValueHolds}
-use Rattle.txc_call_registry.specs.Objects.{Objects, AllIdle}
-use Rattle.txc_call.specs.declared.frame.Frame.{Frame}
+use Rattle.txc_call_registry.specs.Objects.{Objects}
 use Rattle.txc_call.specs.declared.need.Need.{Need}
 use Rattle.txc_call.specs.declared.need.Need.TheVariants as needs
 use Rattle.txc_call.specs.declared.need.Outcome.{Outcome}
 use Rattle.txc_call.specs.Reaches.{InReach}
-use Rattle.txc_call.specs.Frames.{IsStack}
-use Rattle.txc_call.proofs.Offered.{finished}
+use Rattle.txc_call.proofs.Offered.{value_fits}
 use Rattle.txc_call.specs.declared.reply.Reply.{Reply}
 use Rattle.txc_call.specs.declared.reply.Reply.TheVariants as replies
-use Rattle.txc_call.specs.Needs.{reach_of, reply_reach, NeedFits, NeedHolds, ReplyFits, ReplyHolds}
+use Rattle.txc_call.specs.Needs.{reach_of, reply_reach, NeedHolds, ReplyFits, ReplyHolds}
 use Rattle.txc_call.specs.CallMachine.{Calling, CallHolds, InCall, IsCalling}
 use Rattle.txc_txn_rw.specs.declared.given.Given.{Given}
 use Rattle.txc_txn_rw.specs.declared.given.Given.TheVariants as given
@@ -213,15 +211,6 @@ pub value_at_one : (next : Next) (changes : List Change) (k : Call) (bytes : Lis
     → InReach 1 reach → ValueHolds next (committed changes) k bytes reach tags → eval next k (state_of changes) ≡ Some bytes
 value_at_one next changes k bytes None tags here h = (h (state_of changes)).0
 value_at_one next changes k bytes (Some reach) tags here h = h.holds 1 here
-
--- what a call is done with is all that is left of it
-value_fits : (next : Next) (objects : Objects) (top : Call) (need : Option Need) (frames : List Frame) (o : Outcome) → need ≡ Some (needs.Value o) → NeedFits next objects top need frames
-    → (frames ≡ []) × AllIdle objects × (o.key ≡ top)
-value_fits next objects top need frames o is h =
-    let done = subst (λ (n : Option Need). NeedFits next objects top n frames) is h in
-    let at_bottom : asks.Call o.key ≡ asks.Call top = subst (λ (fs : List Frame). IsStack next objects top (asks.Call o.key) fs) done.1 done.0.open_frames.stack in
-    let rest = finished next objects top o frames done in
-    (rest.0, rest.1, cc)
 
 module _ (next : Next) (objects : Objects) (call : Calling) (o : Outcome) (is : call.need ≡ Some (needs.Value o)) (calling : IsCalling next objects call) where
   pub done_fits : IsCalling next objects (record call { need = None })

@@ -1,7 +1,8 @@
 -- Every state of a history is one that some changes lead to.
 use Rattle.std.proofs.Common.{◌≡◌, ℕ, List, [], ◌∷◌, ◌++◌, take, fold, refl, sym, ap, ◌∙◌}
 use Rattle.txc_rows.specs.declared.query.Change.{Change}
-use Rattle.txc_rows.specs.States.{State, after_change, after_changes}
+use Rattle.txc_rows.specs.States.{State, after_changes}
+use Rattle.txc_rows.proofs.ChangeLemmas.{changes_then}
 use Rattle.txc_db.specs.Facts.{Fact, commit, pin, net_of}
 use Rattle.txc_db.specs.History.{History, after_fact, state_after_event, state_at}
 use Rattle.txc_txn_rw.specs.Answers.{state_of}
@@ -10,10 +11,6 @@ use Rattle.txc_txn_rw.specs.Answers.{state_of}
 abbrev pub changes_of : History → List Change
 changes_of [] = []
 changes_of (e ∷ es) = net_of e.fact ++ changes_of es
-
-changes_then : (cs ds : List Change) (s : State) → after_changes (cs ++ ds) s ≡ after_changes ds (after_changes cs s)
-changes_then [] ds s = refl
-changes_then (c ∷ cs) ds s = changes_then cs ds (after_change c s)
 
 fact_changes : (f : Fact) (s : State) → after_changes (net_of f) s ≡ after_fact f s
 fact_changes (commit net) s = refl

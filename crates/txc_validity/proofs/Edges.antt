@@ -1,79 +1,47 @@
 -- Where a version that matches begins or ends, the answer changes.
-use Rattle.std.proofs.Common.{◌≡◌, ◌≢◌, ◌⊎◌, inl, inr, ℕ, ◌+◌, ◌<◌, ◌≤◌, List, [], ◌∷◌, map, filter, true, ◌&&◌, Option, None, Some, nat_le, nat_lt, refl, sym, ap, subst, ◌∙◌, arith}
-use Rattle.std.proofs.lemmas.Bool.Decides.{nat_tests}
-use Rattle.std.specs.List.{AllByRecursion}
+use Rattle.std.proofs.Common.{◌≡◌, ◌≢◌, inl, inr, ℕ, ◌+◌, ◌<◌, ◌≤◌, List, filter, true, ◌&&◌, Option, None, Some, refl, sym, ap, subst, ◌∙◌, arith}
+use Rattle.std.proofs.lemmas.Bool.{leb-true, le-leb, ltb-true, lt-ltb}
 use Rattle.txc_rows.specs.declared.version.Versioned.{Versioned}
 use Rattle.txc_rows.specs.declared.query.Query.{Query}
 use Rattle.txc_rows.specs.Values.{RowValue}
-use Rattle.txc_rows.specs.Versions.{row_of, suits, is_visible, lives_at, shown_at, Follows, Pairwise, IsVersion, AreVersions}
+use Rattle.txc_rows.specs.Versions.{row_of, suits, is_visible, lives_at, shown_at, IsVersion, AreVersions}
 use Rattle.txc_rows.proofs.Offered.{IsIn, both_true, and_true, in_filter, from_filter}
+use Rattle.txc_rows.proofs.AroundLemmas.{two_of}
+use Rattle.txc_rows.proofs.Members.{in_map, from_map}
+use Rattle.txc_tags.proofs.All.{all_in}
 use Rattle.txc_validity.specs.Changes.{Turns}
 
 -- a version that matches begins or ends at the stamp
 abbrev pub IsEdge : Query → List Versioned → ℕ → Type 0
 IsEdge q vs s = (v : Versioned) × IsIn v vs × (suits q v ≡ true) × Turns v s
 
-le_of : (a b : ℕ) → nat_le a b ≡ true → a ≤ b
-le_of a b h = grind (arith, nat_tests)
-
-of_le : (a b : ℕ) → a ≤ b → nat_le a b ≡ true
-of_le a b h = grind (arith, nat_tests)
-
-lt_of : (a b : ℕ) → nat_lt a b ≡ true → a < b
-lt_of a b h = grind (arith, nat_tests)
-
-of_lt : (a b : ℕ) → a < b → nat_lt a b ≡ true
-of_lt a b h = grind (arith, nat_tests)
-
 lives_of : (s : ℕ) (x : Option ℕ) → lives_at s x ≡ true → (d : ℕ) → x ≡ Some d → s < d
 lives_of s None h d e = absurd (let f = e in cc)
-lives_of s (Some x) h d e = let same : x ≡ d = cc in subst (λ n. s < n) same (lt_of s x h)
+lives_of s (Some x) h d e = let same : x ≡ d = cc in subst (λ n. s < n) same (ltb-true s x h)
 
 of_lives : (s : ℕ) (x : Option ℕ) → ((d : ℕ) → x ≡ Some d → s < d) → lives_at s x ≡ true
 of_lives s None h = refl
-of_lives s (Some x) h = of_lt s x (h x refl)
+of_lives s (Some x) h = lt-ltb s x (h x refl)
 
 seen_of : (s : ℕ) (v : Versioned) → is_visible s v ≡ true → (v.born ≤ s) × ((d : ℕ) → v.died ≡ Some d → s < d)
-seen_of s v h = let two = both_true _ _ h in (le_of _ _ two.0, lives_of s v.died two.1)
+seen_of s v h = let two = both_true _ _ h in (leb-true _ _ two.0, lives_of s v.died two.1)
 
 of_seen : (s : ℕ) (v : Versioned) → v.born ≤ s → ((d : ℕ) → v.died ≡ Some d → s < d) → is_visible s v ≡ true
-of_seen s v a b = and_true _ _ (of_le _ _ a) (of_lives s v.died b)
+of_seen s v a b = and_true _ _ (le-leb _ _ a) (of_lives s v.died b)
 
 -- ---- what is shown is the row of a version that is visible
 
-in_mapped : {X Y : Type 0} (f : X → Y) (x : X) (xs : List X) → IsIn x xs → IsIn (f x) (map f xs)
-in_mapped f x [] h = absurd h
-in_mapped f x (y ∷ ys) (inl e) = inl (ap f e)
-in_mapped f x (y ∷ ys) (inr h) = inr (in_mapped f x ys h)
-
-from_mapped : {X Y : Type 0} (f : X → Y) (y : Y) (xs : List X) → IsIn y (map f xs) → (x : X) × IsIn x xs × (y ≡ f x)
-from_mapped f y [] h = absurd h
-from_mapped f y (x ∷ xs) (inl e) = (x, inl refl, e)
-from_mapped f y (x ∷ xs) (inr h) = let it = from_mapped f y xs h in (it.0, inr it.1, it.2)
-
 shown_from : (q : Query) (s : ℕ) (vs : List Versioned) (r : RowValue) → IsIn r (shown_at q s vs) → (w : Versioned) × IsIn w vs × (is_visible s w ≡ true) × (r ≡ w.row)
 shown_from q s vs r h =
-    let it = from_mapped row_of r (filter (λ v. is_visible s v && suits q v) vs) h in
+    let it = from_map row_of r (filter (λ v. is_visible s v && suits q v) vs) h in
     let there = from_filter (λ v. is_visible s v && suits q v) it.0 vs it.1 in
     (it.0, there.0, (both_true (is_visible s it.0) (suits q it.0) there.1).0, it.2)
 
 shown_has : (q : Query) (s : ℕ) (vs : List Versioned) (w : Versioned) → IsIn w vs → is_visible s w ≡ true → suits q w ≡ true → IsIn w.row (shown_at q s vs)
 shown_has q s vs w there seen fits =
-    in_mapped row_of w (filter (λ v. is_visible s v && suits q v) vs) (in_filter (λ v. is_visible s v && suits q v) w vs there (and_true _ _ seen fits))
+    in_map row_of w (filter (λ v. is_visible s v && suits q v) vs) (in_filter (λ v. is_visible s v && suits q v) w vs there (and_true _ _ seen fits))
 
 -- ---- two versions of a row
-
-all_in : {X : Type 0} (P : X → Type 0) (xs : List X) (x : X) → AllByRecursion P xs → IsIn x xs → P x
-all_in P [] x all h = absurd h
-all_in P (y ∷ ys) x all (inl e) = subst P (sym e) all.0
-all_in P (y ∷ ys) x all (inr h) = all_in P ys x all.1 h
-
-two_of : (vs : List Versioned) (v w : Versioned) → Pairwise Follows vs → IsIn v vs → IsIn w vs → (v ≡ w) ⊎ (Follows v w ⊎ Follows w v)
-two_of [] v w p a b = absurd a
-two_of (u ∷ us) v w p (inl a) (inl b) = inl (a ∙ sym b)
-two_of (u ∷ us) v w p (inl a) (inr b) = inr (inl (subst (λ x. Follows x w) (sym a) (all_in (Follows u) us w p.0 b)))
-two_of (u ∷ us) v w p (inr a) (inl b) = inr (inr (subst (λ x. Follows x v) (sym b) (all_in (Follows u) us v p.0 a)))
-two_of (u ∷ us) v w p (inr a) (inr b) = two_of us v w p.1 a b
 
 -- where a version ends no other shows its row
 ends_apart : (q : Query) (vs : List Versioned) (s : ℕ) (v : Versioned) → AreVersions vs → IsIn v vs → suits q v ≡ true → v.died ≡ Some (s + 1) → shown_at q s vs ≢ shown_at q (s + 1) vs

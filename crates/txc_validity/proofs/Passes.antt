@@ -1,8 +1,8 @@
 -- A pass over versions that cuts a stretch at each that matches leaves the validity.
-use Rattle.std.proofs.Common.{◌≡◌, ◌⊎◌, inl, inr, ℕ, zero, suc, ◌+◌, ◌-◌, ◌<◌, ◌≤◌, ◌==◌, nat_lt, List, [], ◌∷◌, ◌++◌, take, length, get_or, map, filter, Bool, true, false, true≢false, cond, ◌&&◌, refl, sym, ap, subst, ◌∙◌, arith}
-use Rattle.std.proofs.lemmas.Bool.Decides.{nat_tests}
-use borrow.Author.Tests.{ltb-false}
+use Rattle.std.proofs.Common.{◌≡◌, ◌⊎◌, inl, inr, ℕ, zero, suc, ◌+◌, ◌-◌, ◌<◌, ◌≤◌, ◌==◌, List, [], ◌∷◌, ◌++◌, take, length, get_or, map, filter, Bool, true, false, true≢false, cond, ◌&&◌, refl, sym, ap, subst, ◌∙◌, arith}
 use Rattle.std.specs.List.{AllByRecursion}
+use Rattle.std.proofs.lemmas.Bool.{cases_lt}
+use Rattle.std.proofs.Math.Bool.{and-false}
 use Rattle.txc_rows.specs.declared.version.Versioned.{Versioned}
 use Rattle.txc_rows.specs.declared.query.Query.{Query}
 use Rattle.txc_rows.specs.Versions.{row_of, suits, is_visible, shown_at, AreVersions}
@@ -16,10 +16,6 @@ use Rattle.txc_validity.proofs.Edges.{IsEdge, edge}
 abbrev pub AreSteady : Query → ℕ → ℕ → ℕ → List Versioned → Type 0
 AreSteady q t first last = AllByRecursion (λ v. suits q v ≡ true → IsSteady t first last v)
 
-never : (b : Bool) → b && false ≡ false
-never true = refl
-never false = refl
-
 -- so the answer is the same throughout
 steady_shows : (q : Query) (vs : List Versioned) (t first last : ℕ) → AreSteady q t first last vs → HoldsOn (λ s. shown_at q s vs) t first last
 steady_shows q [] t first last all s a b = refl
@@ -29,7 +25,7 @@ steady_shows q (v ∷ vs) t first last all s a b = go (suits q v) refl (steady_s
     go true e on =
         let seen : is_visible s v ≡ is_visible t v = all.0 e s a b in
         rw (e, seen) (elim (is_visible t v && true) as (λ c. map row_of (cond c (v ∷ filter (λ x. is_visible s x && suits q x) vs) (filter (λ x. is_visible s x && suits q x) vs)) ≡ map row_of (cond c (v ∷ filter (λ x. is_visible t x && suits q x) vs) (filter (λ x. is_visible t x && suits q x) vs))) [ true ↦ ap (λ rows. v.row ∷ rows) on | false ↦ on ])
-    go false e on = rw (e, never (is_visible s v), never (is_visible t v)) on
+    go false e on = rw (e, and-false (is_visible s v), and-false (is_visible t v)) on
 
 -- ---- one version more
 
@@ -66,30 +62,26 @@ edge_next q vs i s v Old New low is fits (inr turns) on = inr (v, in_at vs i v l
 
 -- ---- after the last
 
-not_below : (a b : ℕ) → (a < b → ⊥) → b ≤ a
-not_below a b h = go (nat_lt a b) refl
-  where
-    lt_of : nat_lt a b ≡ true → a < b
-    lt_of e = grind (arith, nat_tests)
-
-    go : (c : Bool) → nat_lt a b ≡ c → b ≤ a
-    go true e = absurd (h (lt_of e))
-    go false e = ltb-false a b e
-
 low_edge : (q : Query) (vs : List Versioned) (t horizon first a b : ℕ) → AreVersions vs → horizon ≤ a → first ≤ t → t ≤ b → HoldsOn (λ s. shown_at q s vs) t a b → (first ≡ horizon) ⊎ IsEdge q vs first → first ≤ a
 low_edge q vs t horizon first a b are low around high same (inl e) = omega arith
-low_edge q vs t horizon first a b are low around high same (inr turns) = not_below a first (λ under.
-    let next : first - 1 + 1 ≡ first = omega arith in
-    let before : shown_at q (first - 1) vs ≡ shown_at q t vs = same (first - 1) (omega arith) (omega arith) in
-    let here : shown_at q first vs ≡ shown_at q t vs = same first (omega arith) (omega arith) in
-    edge q vs (first - 1) are (subst (IsEdge q vs) (sym next) turns) (before ∙ sym here ∙ ap (λ s. shown_at q s vs) (sym next)))
+low_edge q vs t horizon first a b are low around high same (inr turns) = elim (cases_lt a first) [
+  | inl under ↦
+      let next : first - 1 + 1 ≡ first = omega arith in
+      let before : shown_at q (first - 1) vs ≡ shown_at q t vs = same (first - 1) (omega arith) (omega arith) in
+      let here : shown_at q first vs ≡ shown_at q t vs = same first (omega arith) (omega arith) in
+      absurd (edge q vs (first - 1) are (subst (IsEdge q vs) (sym next) turns) (before ∙ sym here ∙ ap (λ s. shown_at q s vs) (sym next)))
+  | inr from ↦ from
+]
 
 high_edge : (q : Query) (vs : List Versioned) (t newest last a b : ℕ) → AreVersions vs → b ≤ newest → t ≤ last → a ≤ t → HoldsOn (λ s. shown_at q s vs) t a b → (last ≡ newest) ⊎ IsEdge q vs (last + 1) → b ≤ last
 high_edge q vs t newest last a b are high around low same (inl e) = omega arith
-high_edge q vs t newest last a b are high around low same (inr turns) = not_below last b (λ over.
-    let here : shown_at q last vs ≡ shown_at q t vs = same last (omega arith) (omega arith) in
-    let after : shown_at q (last + 1) vs ≡ shown_at q t vs = same (last + 1) (omega arith) (omega arith) in
-    edge q vs last are turns (here ∙ sym after))
+high_edge q vs t newest last a b are high around low same (inr turns) = elim (cases_lt last b) [
+  | inl over ↦
+      let here : shown_at q last vs ≡ shown_at q t vs = same last (omega arith) (omega arith) in
+      let after : shown_at q (last + 1) vs ≡ shown_at q t vs = same (last + 1) (omega arith) (omega arith) in
+      absurd (edge q vs last are turns (here ∙ sym after))
+  | inr upto ↦ upto
+]
 
 pub valid_from : (q : Query) (vs : List Versioned) (t horizon newest first last : ℕ) → AreVersions vs → horizon ≤ first → first ≤ t → t ≤ last → last ≤ newest → AreSteady q t first last vs
     → (first ≡ horizon) ⊎ IsEdge q vs first → (last ≡ newest) ⊎ IsEdge q vs (last + 1)

@@ -1,6 +1,6 @@
 -- How a job's calls go.
 use Rattle.txc_stream.specs.Names.{Name}
-use Rattle.std.proofs.Common.{◌≡◌, ◌∙◌, ℕ, suc, ◌<◌, List, ◌∷◌, ◌++◌, length, get_or, take, drop, Result, Ok, Err, IfErr, IsErrAnd, sym, ap, subst}
+use Rattle.std.proofs.Common.{◌≡◌, ◌∙◌, ℕ, suc, ◌<◌, List, ◌∷◌, ◌++◌, length, get_or, take, drop, Result, Err, sym, ap, subst}
 use Rattle.std.proofs.lemmas.List.{take-append-drop}
 use Rattle.std.proofs.Math.Seq.{drop-cons}
 use Rattle.txc_tags.specs.Keys.{Call}
@@ -12,11 +12,6 @@ use Rattle.txc_txn.specs.RunningTxn.{IsTxn}
 use Rattle.txc_txn_client.specs.Run.{HasRun}
 use Rattle.txc_txn_client.specs.RoTxn.{RoTxnValue}
 use Rattle.txc_work.specs.Batches.{keys_of, IsRefusedAt}
-
--- what a `?` passes on
-pub passed_on : {T E : Type 0} (r : Result T E) (e : E) (P : E → Type 0) → IsErrAnd r (λ x. x ≡ e) → P e → IfErr r P
-passed_on (Ok x) e P h k = absurd h
-passed_on (Err x) e P h k = subst P (sym h) k
 
 -- where the keys before this one were answered, its call is the first that was refused
 pub refused_at : (next : Next) (row : Name) (node_histories : ℕ → Name) (objects : Objects) (bounds : Bounds) (keys : List Call) (i : ℕ) (key copy : Call)

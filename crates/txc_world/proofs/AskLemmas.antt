@@ -1,7 +1,7 @@
 -- What comes of a transaction's requests at the plain ports.
 use Rattle.std.proofs.Common.{◌≡◌, ◌∙◌, inl, inr, ℕ, [], ◌∷◌, ◌++◌, Result, Ok, Err, Option, Some, None, refl, ap, sym, subst}
 use Rattle.std.specs.Prelude.{IfSome}
-use Rattle.std.specs.Option.{option_map, ForSome}
+use Rattle.std.specs.Option.{option_map}
 use Rattle.txc_tags.specs.Keys.{Call}
 use Rattle.txc_rows.specs.declared.query.Query.{Query}
 use Rattle.txc_validity.specs.declared.answer.Found.{Found}
@@ -24,6 +24,7 @@ use Rattle.txc_txn_ports.specs.declared.request.PortRequest.{PortRequest}
 use Rattle.txc_txn_ports.specs.declared.request.PortRequest.TheVariants as requests
 use Rattle.txc_txn_ports.specs.declared.reply.PortReply.{PortReply}
 use Rattle.txc_txn_ports.specs.declared.reply.PortReply.TheVariants as replies
+use Rattle.txc_txn_ports.proofs.Options.{for_this, for_none}
 use Rattle.txc_world.specs.declared.port_outcome.PortOutcome.{PortOutcome}
 use Rattle.txc_world.specs.declared.port_outcome.PortOutcome.TheVariants as dids
 use Rattle.txc_world.specs.Parts.{IsPartOf}
@@ -39,13 +40,6 @@ use Rattle.txc_world.proofs.PortsLemmas.{left_history}
 -- what was part of the whole is so after a step
 pub still_part : (old new : PortsValue) (front : FrontValue) → KeepsRow old new → IsPartOf (whole_of old) front → IsPartOf (whole_of new) front
 still_part old new front k part = part_then (whole_of new) (whole_of old) front (record { row = sym k.events; begins = k.longer }) part
-
--- what holds of a value holds of the one that there is
-for_this : {X : Type 0} (P : X → Type 0) (x : X) → P x → ForSome (Some x) P
-for_this P x h y is = let same : x ≡ y = cc in subst P same h
-
-for_none : {X : Type 0} (P : X → Type 0) → ForSome None P
-for_none P y is = cc is
 
 module _ (next : Next) (pass : ℕ) (seen : FrontValue) (old new : PortsValue) (keeps : KeepsRow old new) (right : CountRight old) where
   pub asked_pin : (now at_least : ℕ) (pinned : Result Pinned DbError) → PinTransition now at_least old new pinned

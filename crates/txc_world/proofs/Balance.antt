@@ -8,6 +8,7 @@ use Rattle.txc_db.specs.DatabaseValue.{after_event_of, newest_net, newest_state,
 use Rattle.txc_cushion.specs.declared.error.AddError.{AddError}
 use Rattle.txc_cushion.specs.Cushion.{retired}
 use Rattle.txc_cushion.specs.Entries.{times}
+use Rattle.txc_cushion.proofs.Counts.{times_cons}
 use Rattle.txc_world.specs.declared.step.KeeperStep.{KeeperStep}
 use Rattle.txc_world.specs.declared.step.KeeperStep.TheVariants as keeps
 use Rattle.txc_world.specs.declared.reply.Reply.{Reply}
@@ -22,7 +23,7 @@ use Rattle.txc_world.specs.Holdings.{holdings_of, Account, CountRight}
 use Rattle.txc_world.specs.Tidy.{AreBalanced, KeepsBalance, InHand}
 use Rattle.txc_world.specs.KeeperStep.{KeepTransition}
 use Rattle.txc_world.proofs.KeptLemmas.{pinned_spare_stamps}
-use Rattle.txc_world.proofs.Times.{held_there, times_append, times_cons, times_one, times_without}
+use Rattle.txc_world.proofs.Times.{held_there, times_append, times_one, times_without}
 use Rattle.txc_world.proofs.Fairness.{left_holds, pin_holds}
 
 module _ (old new : PortsValue) where

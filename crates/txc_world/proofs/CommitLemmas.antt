@@ -1,5 +1,5 @@
 -- What a commit of a read-write transaction makes of the history, and what it explains.
-use Rattle.std.proofs.Common.{◌≡◌, ◌≢◌, ◌∙◌, ◌⊎◌, inl, inr, ℕ, ◌+◌, arith, List, [], ◌∷◌, ◌++◌, length, Option, Some, None, refl, ap, sym, subst, add-one}
+use Rattle.std.proofs.Common.{◌≡◌, ◌≢◌, ◌∙◌, inl, inr, ℕ, ◌+◌, arith, List, [], ◌∷◌, ◌++◌, length, Option, Some, None, refl, ap, sym, subst, add-one}
 use Rattle.std.specs.Prelude.{option_map, Ok}
 use Rattle.std.proofs.lemmas.List.{length_push, take_all}
 use Rattle.txc_stream.proofs.Offered.{prefix_push, push_get}
@@ -15,6 +15,7 @@ use Rattle.txc_db.specs.DatabaseValue.{DatabaseValue, after_commit, after_event_
 use Rattle.txc_db.specs.Calls.{IsCommittable}
 use Rattle.txc_db.specs.Laws.{StatesStay, TagsStay}
 use Rattle.txc_db.specs.DatabaseReply.{IsQuietIn, IsEventIn}
+use Rattle.txc_db.proofs.Committed.{empty_or, event_history}
 use Rattle.txc_app.specs.Eval.{Next}
 use Rattle.txc_call_registry.specs.Objects.{Objects}
 use Rattle.txc_txn_rw.specs.RwCore.{RwValue, RwHolds, tags_read}
@@ -28,22 +29,9 @@ use Rattle.txc_world.specs.Actors.{told_answers}
 
 -- ---- with a net change or none
 
-empty_or : (net : List Change) → (net ≡ []) ⊎ (net ≢ [])
-empty_or [] = inl refl
-empty_or (c ∷ cs) = inr (λ e. let f = e in cc)
-
-some_is : (net : List Change) (d other : DatabaseValue) → net ≢ [] → where_some net d other ≡ other
-some_is [] d other some = absurd (some refl)
-some_is (c ∷ cs) d other some = refl
-
 quiet_history : (d : DatabaseValue) (changes : List Change) → newest_net d changes ≡ [] → (after_commit d changes).history ≡ d.history
 quiet_history d changes none =
     ap (λ (net : List Change). (where_some net d (after_event_of d (commit_event (newest_state d) changes) (newest_net d changes))).history) none
-
-event_history : (d : DatabaseValue) (changes : List Change) → newest_net d changes ≢ []
-    → (after_commit d changes).history ≡ d.history ++ commit_event (newest_state d) changes ∷ []
-event_history d changes some =
-    ap (λ (v : DatabaseValue). v.history) (some_is (newest_net d changes) d (after_event_of d (commit_event (newest_state d) changes) (newest_net d changes)) some)
 
 -- ---- what the database did
 

@@ -23,6 +23,7 @@ use Rattle.txc_cushion.specs.declared.error.UnknownPin.{UnknownPin}
 use Rattle.txc_cushion.specs.declared.pins.Pins.{Pins}
 use Rattle.txc_cushion.specs.Laws.{GiveBackCountsUsers}
 use Rattle.txc_cushion.specs.Pin.{is_older}
+use Rattle.txc_cushion.proofs.Counts.{times_off}
 use Rattle.txc_pinset.specs.declared.choice.Choice.TheVariants.{Present, At}
 use Rattle.txc_pinset.specs.Members.{choice_among}
 use Rattle.txc_app.specs.Eval.{Next}
@@ -43,7 +44,7 @@ use Rattle.txc_world.specs.Actors.{counted, holds_any}
 use Rattle.txc_world.specs.Holdings.{account_of_core, gained, handed, nothing, spent, stamp_if_any, Account, ActCounts, AskCounts, CountRight, HasLost, TakesOnlyItsOwn, LosesOnlyUnheld}
 use Rattle.txc_world.specs.LostSnapshot.{IfDidLose, IfGone, IfPortLoses, IfReplyLost}
 use Rattle.txc_world.proofs.Losing.{gone_so, port_so}
-use Rattle.txc_world.proofs.Times.{times_append, times_off, times_one, times_there, times_without}
+use Rattle.txc_world.proofs.Times.{times_append, times_one, times_there, times_without}
 
 -- ---- what is fair
 

@@ -2,11 +2,11 @@
 use Rattle.std.proofs.Common.{◌≡◌, ◌∙◌, ℕ, zero, suc, ◌<◌, ◌≤◌, List, [], ◌∷◌, ◌++◌, length, Option, Some, None, Ok, Err, refl, sym, ap, subst, take, arith, slice_get, slice_set}
 use Rattle.std.proofs.Math.Seq.{take-length}
 use Rattle.std.specs.Prelude.{MatchOption, Result}
-use Rattle.std.specs.List.{AllByRecursion}
 use Rattle.std.proofs.lemmas.Option.{slice_get_within}
 use Rattle.txc_db.specs.History.{History}
 use Rattle.txc_cushion.specs.declared.pin.Pin.{Pin}
 use Rattle.txc_app.specs.Eval.{Next}
+use Rattle.txc_tags.proofs.All.{all-append}
 use Rattle.txc_world.specs.declared.step.ActorStep.{ActorStep}
 use Rattle.txc_world.specs.declared.step.ActorStep.TheVariants.{BeginRo, BeginRw, Start, Request, Ask, Write, Commit, Abort}
 use Rattle.txc_world.specs.declared.step.Step.{Step}
@@ -93,10 +93,6 @@ explained_apart : (next : Next) (told : Observation) (xs ys : List (Step × Repl
 explained_apart next told [] ys h = (tt, h)
 explained_apart next told (x ∷ xs) ys h =
     let rest = explained_apart next (after told x.0 x.1) xs ys h.1 in ((h.0, rest.0), rest.1)
-
-all_of_both : {X : Type 0} (P : X → Type 0) (xs ys : List X) → AllByRecursion P xs → AllByRecursion P ys → AllByRecursion P (xs ++ ys)
-all_of_both P [] ys a b = b
-all_of_both P (x ∷ xs) ys a b = (a.0, all_of_both P xs ys a.1 b)
 
 -- ---- what is shown is at most the floor
 
@@ -297,7 +293,7 @@ sessions_are_monotonic next told steps answers has explained number now stalenes
     let from = receipt_from next end open_at number (λ n. n ≡ floor_at start.floors number) pin second.1.0 reads in
     let at = from.1 in
     let late = from.2 in
-    all_of_both (λ (x : Step × Reply). ToldAtMost number pin.stamp x.0 x.1) before between
+    all-append (λ (x : Step × Reply). ToldAtMost number pin.stamp x.0 x.1) before between
     (before_low next told before number pin.stamp has first.0 (omega (arith, at, late)))
     (between_low next end begun between number pin none second.0 second.1.0)
 

@@ -10,12 +10,13 @@ use Rattle.txc_cushion.specs.declared.entry.PinEntry.{PinEntry}
 use Rattle.txc_cushion.specs.Cushion.{after_give_back, handed_out}
 use Rattle.txc_cushion.specs.Laws.{GiveBackCountsUsers}
 use Rattle.txc_cushion.specs.Refusals.{HaveUsers, IsFirstUnused}
+use Rattle.txc_cushion.proofs.Counts.{times_cons, times_on}
 use Rattle.txc_world.specs.Ports.{PortsValue}
 use Rattle.txc_world.specs.PortRequests.{FreshTransition}
 use Rattle.txc_world.specs.KeeperAtPorts.{GiveBackTransition}
 use Rattle.txc_world.specs.Holdings.{CountRight, GivesBack, KeepsPins}
 use Rattle.txc_world.proofs.SameEntries.{pins_back, pins_handed, same_entries}
-use Rattle.txc_world.proofs.Times.{times_cons, times_on, times_one}
+use Rattle.txc_world.proofs.Times.{times_one}
 
 -- of these pins all but the rest are given back
 abbrev pub GivesBackSome : PortsValue → PortsValue → List Pin → List Pin → Type 0

@@ -4,6 +4,7 @@ use Rattle.std.specs.Prelude.{option_map}
 use Rattle.std.proofs.lemmas.List.Elements.{All-head, All-tail}
 use mathlib.Core.List.{IsPrefix}
 use Rattle.txc_db.specs.History.{History, state_at}
+use Rattle.txc_db.proofs.Histories.{moment_stays, pin_within}
 use Rattle.txc_cushion.specs.declared.pin.Pin.{Pin}
 use Rattle.txc_app.specs.Eval.{Next}
 use Rattle.txc_txn_ports.specs.declared.bounds.Bounds.{Bounds}
@@ -18,7 +19,7 @@ use Rattle.txc_world.specs.Observation.{Reading, reading, Observation}
 use Rattle.txc_world.specs.Ports.{PortsValue, whole_of}
 use Rattle.txc_world.specs.Actors.{observed_of, IsActorThere}
 use Rattle.txc_world.specs.Worlds.{told_of, AreMembersOf, IsWorld}
-use Rattle.txc_world.proofs.Explaining.{moment_later, moment_within, state_later}
+use Rattle.txc_world.proofs.Explaining.{state_later}
 use Rattle.txc_world.proofs.Stepping.{observed_there}
 
 -- what is true of all is true of the one of the number
@@ -30,10 +31,10 @@ all_get P (y ∷ ys) (suc i) x all is = all_get P ys i x (All-tail P y ys all) i
 -- a pin that the bounds allow, they allow in a longer history
 fresh_later : (L M : History) (bounds : Bounds) (pin : Pin) → IsPrefix L M → IsFresh L bounds pin → IsFresh M bounds pin
 fresh_later L M bounds pin on h = record {
-  shown = moment_later L M pin.stamp pin.moment on h.shown;
+  shown = moment_stays L M pin.stamp pin.moment on h.shown;
   allowed = record {
     moment = h.allowed.moment;
-    pinned = moment_later L M pin.stamp h.allowed.moment on h.allowed.pinned;
+    pinned = moment_stays L M pin.stamp h.allowed.moment on h.allowed.pinned;
     fresh = h.allowed.fresh;
     late = h.allowed.late;
   };
@@ -42,7 +43,7 @@ fresh_later L M bounds pin on h = record {
 consistent_later : (next : Next) (L M : History) (bounds : Bounds) (answers : List Recorded) (pin : Pin) → IsPrefix L M → IsFresh L bounds pin
     → AreConsistent next answers (state_at L pin.stamp) → AreConsistent next answers (state_at M pin.stamp)
 consistent_later next L M bounds answers pin on h right =
-    subst (AreConsistent next answers) (sym (state_later L M pin.stamp on (moment_within L pin.stamp pin.moment h.shown))) right
+    subst (AreConsistent next answers) (sym (state_later L M pin.stamp on (pin_within L pin.stamp pin.moment h.shown))) right
 
 -- what an open transaction is shown as
 abbrev told_reading : {A C : Type 0} → OpenTxn A C → Reading

@@ -43,10 +43,7 @@ advanced_so pass whole old new (Ok advanced) is part longer after left refused =
   subst (λ (front : FrontValue). HasAdvanced (seeing old front) pass new advanced) (longer_is_whole old.seen whole new.seen longer part) after,
 )
 advanced_so pass whole old new (Err errors.Memory) is part longer after left refused = (left, is)
-advanced_so pass whole old new (Err errors.Broken) is part longer after left refused = (left, refused)
-advanced_so pass whole old new (Err errors.EmptyRange) is part longer after left refused = (left, refused)
-advanced_so pass whole old new (Err errors.HistoryFull) is part longer after left refused = (left, refused)
-advanced_so pass whole old new (Err errors.PassesFull) is part longer after left refused = (left, refused)
+advanced_so pass whole old new (Err e) is part longer after left refused = (left, refused)
 
 -- a step keeps how the node was made, what its history is called, its row and its passes; and what it has seen is part of the whole unless it
 -- is broken, if it was before
@@ -87,10 +84,7 @@ module _ (whole : FrontValue) where
   pub stays_left : (old new : NodeValue) (e : NodeError) → IsNodeLeft old new e → StaysNode whole old new
   stays_left old new errors.Broken (inl same) = stays_same old new same.0
   stays_left old new errors.Broken (inr broke) = stays_broken old new broke
-  stays_left old new errors.EmptyRange same = stays_same old new same
-  stays_left old new errors.HistoryFull same = stays_same old new same
-  stays_left old new errors.PassesFull same = stays_same old new same
-  stays_left old new errors.Memory same = stays_same old new same
+  stays_left old new e same = stays_same old new same
 
   pub stays_looked_up : (old new : NodeValue) (pass : ℕ) (key : Call) (lo hi : ℕ) (found : Option HitValue)
       → LookupTransition pass key lo hi old new found → StaysNode whole old new
@@ -150,11 +144,6 @@ pub looked_up : (pass : ℕ) (key : Call) (lo hi : ℕ) (old new : NodeValue) (r
 looked_up pass key lo hi old new (Ok (Some hit)) after answer left refused = (after, sym answer)
 looked_up pass key lo hi old new (Ok None) after answer left refused = inl (after, sym answer)
 looked_up pass key lo hi old new (Err e) after answer left refused = inr (e, refused, left)
-
--- what holds of what it found holds of what the node has
-pub found_so : (P : Answered HitValue → Type 0) (r : Result (Option (Answered HitValue)) NodeError) → IfOk r (λ o. IfSome o P) → IfSome (result_unwrap_or r None) P
-found_so P (Ok o) h = h
-found_so P (Err e) h = tt
 
 -- which a whole node alone shows, so that it is part of the whole
 pub found_part : (whole : FrontValue) (node : NodeValue) (lo hi : ℕ) (r : Result (Option (Answered HitValue)) NodeError) → (node.broken ≡ false → IsPartOf whole node.seen)

@@ -3,7 +3,7 @@ use Rattle.std.proofs.Common.{◌≡◌, ◌∙◌, ◌⊎◌, inl, inr, ℕ, ze
 use Rattle.std.proofs.lemmas.List.{length-set}
 use Rattle.std.proofs.lemmas.Option.{slice_get-get_or}
 use Rattle.std.proofs.Math.Seq.{map-set_same}
-use Rattle.std.proofs.lemmas.List.Elements.{All-set, All-get_or, All-from_get_or, All-append}
+use Rattle.std.proofs.lemmas.List.Elements.{All-set, All-get_or, All-from_get_or, All-append, recursion_from_All, All-from_recursion}
 use mathlib.Core.List.{IsPrefix}
 use Rattle.txc_stream.proofs.Offered.{prefix_self, prefix_push}
 use Rattle.std.specs.Prelude.{IfErr, IfOk, IsOk}
@@ -302,22 +302,13 @@ all_without P [] (suc i) h = h
 all_without P (x ∷ xs) zero h = h.1
 all_without P (x ∷ xs) (suc i) h = (h.0, all_without P xs i h.1)
 
-by_recursion : (P : Pinned → Type 0) (xs : List Pinned) → All P xs → AllByRecursion P xs
-by_recursion P [] h = tt
-by_recursion P (x ∷ xs) h = (h 0 x (omega arith), by_recursion P xs (λ i d within. h (suc i) d (omega (arith, within))))
-
-by_place : (P : Pinned → Type 0) (xs : List Pinned) → AllByRecursion P xs → All P xs
-by_place P [] h i d within = absurd (omega (arith, within))
-by_place P (x ∷ xs) h zero d within = h.0
-by_place P (x ∷ xs) h (suc i) d within = by_place P xs h.1 i d (omega (arith, within))
-
 -- one pin of the keeper's is taken out
 pub ports_without_spare : (p : PortsValue) (i : ℕ) (spare : List Pinned) → ArePorts p → spare ≡ remove p.spare i
     → ArePorts (record p { spare = spare })
 ports_without_spare p i spare are is = record {
   cushion = are.cushion;
   nodes = are.nodes;
-  spare = subst (All part) (sym is) (by_place part (remove p.spare i) (all_without part p.spare i (by_recursion part p.spare are.spare)));
+  spare = subst (All part) (sym is) (All-from_recursion part (remove p.spare i) (all_without part p.spare i (recursion_from_All part p.spare are.spare)));
 }
   where
     part : Pinned → Type 0

@@ -5,7 +5,7 @@ use Rattle.std.proofs.lemmas.Bool.{eqb-true}
 use Rattle.txc_cushion.specs.declared.pin.Pin.{Pin}
 use Rattle.txc_cushion.specs.declared.entry.PinEntry.{PinEntry}
 use Rattle.txc_cushion.specs.Entries.{pins_of, stamps_of, times, users_of, is_among, with_user, without_users}
-use Rattle.txc_world.proofs.Times.{times_cons, times_on}
+use Rattle.txc_cushion.proofs.Counts.{times_cons, times_on}
 
 -- ---- pins stay
 

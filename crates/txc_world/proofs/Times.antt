@@ -1,19 +1,11 @@
 -- How often stamps stand in lists.
-use Rattle.std.proofs.Common.{◌≡◌, ◌∙◌, ℕ, zero, suc, ◌+◌, ◌<◌, ◌≤◌, ◌==◌, Bool, true, false, cond, List, [], ◌∷◌, ◌++◌, Some, Contains, refl, ap, arith, eq-eqb, zero-add, slice_get, slice_set}
+use Rattle.std.proofs.Common.{◌≡◌, ◌∙◌, ℕ, zero, suc, ◌+◌, ◌<◌, ◌≤◌, ◌==◌, Bool, true, false, cond, List, [], ◌∷◌, ◌++◌, Some, Contains, refl, ap, arith, eq-eqb, slice_get, slice_set}
 use Rattle.std.specs.Prelude.{sum_by}
 use Rattle.std.proofs.lemmas.List.Sums.{sum_by-cons, sum_by-append}
 use Rattle.txc_db.specs.DatabaseValue.{holds_of, is_held, without}
 use Rattle.txc_db.specs.Laws.{OneHoldLess}
 use Rattle.txc_cushion.specs.Entries.{times}
-
-pub times_cons : (t x : ℕ) (xs : List ℕ) → times t (x ∷ xs) ≡ cond (x == t) 1 0 + times t xs
-times_cons t x xs = sum_by-cons (λ (s : ℕ). cond (s == t) 1 0) x xs
-
-pub times_on : (t x : ℕ) (xs : List ℕ) → (x == t) ≡ true → times t (x ∷ xs) ≡ 1 + times t xs
-times_on t x xs is = times_cons t x xs ∙ rw is refl
-
-pub times_off : (t x : ℕ) (xs : List ℕ) → (x == t) ≡ false → times t (x ∷ xs) ≡ times t xs
-times_off t x xs is = times_cons t x xs ∙ rw is (zero-add (times t xs))
+use Rattle.txc_cushion.proofs.Counts.{times_cons, times_on}
 
 pub times_append : (t : ℕ) (xs ys : List ℕ) → times t (xs ++ ys) ≡ times t xs + times t ys
 times_append t xs ys = sum_by-append (λ (s : ℕ). cond (s == t) 1 0) xs ys

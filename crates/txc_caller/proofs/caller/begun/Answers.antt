@@ -3,8 +3,8 @@ use Rattle.std.specs.Prelude.{All}
 use Rattle.txc_cushion.specs.declared.pins.Pins.{Pins}
 use Rattle.txc_db.specs.History.{History}
 use Rattle.txc_txn_ports.specs.Answers.{IsFresh}
+use Rattle.txc_txn_ports.proofs.Pins.{fresh_pins}
 use Rattle.txc_txn.specs.TxnCore.{CoreValue}
-use Rattle.txc_caller.proofs.Fresh.{fresh_pins}
 use Rattle.txc_caller.proofs.GivingBack.{fresh_back}
 use Rattle.txc_caller.proofs.caller.begun.Goals as goal
 

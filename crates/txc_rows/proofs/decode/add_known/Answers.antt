@@ -4,9 +4,9 @@ use Rattle.txc_rows.specs.declared.placed.Placed.{Placed}
 use Rattle.txc_rows.specs.Placed.{version_of, AreAmong}
 use Rattle.txc_rows.specs.StoredVersion.{placed_from}
 use Rattle.txc_rows.specs.LatestTable.{IsPlacedRow}
-use Rattle.txc_rows.proofs.PutLemmas.{all_front}
 use Rattle.txc_rows.proofs.SweepCalls.{next_first}
 use Rattle.txc_rows.proofs.decode.add_known.Goals as goal
+use Rattle.txc_tags.proofs.All.{all_front}
 
 pub returns-in_default-clause-known : goal.returns-in_default-clause-known
 returns-in_default-clause-known c = λ latest before added. all_front (λ x. Contains latest x) c.loop-row.known.items _ (c.loop-row.invariant.known latest before added)

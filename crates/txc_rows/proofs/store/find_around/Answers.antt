@@ -1,10 +1,10 @@
 use Rattle.std.proofs.Common.{Err, ap, arith, ◌≡◌, ◌<◌, ◌≤◌, ◌+◌, ℕ, length, subst, rules}
 use Rattle.txc_rows.specs.declared.store_error.StoreError.TheVariants.{TooManyRows}
-use Rattle.txc_rows.proofs.PutLemmas.{all_front, all_back}
 use Rattle.txc_rows.specs.StorableVersions.{IsStorable}
 use Rattle.txc_rows.proofs.FindLemmas.{asked, found_latest, latest_many, replaced_few, replaced_many, passed_error}
 use Rattle.txc_rows.proofs.NearLemmas.{around_found}
 use Rattle.txc_rows.proofs.store.find_around.Goals as goal
+use Rattle.txc_tags.proofs.All.{all_front, all_back}
 
 pub returns-in_err-find-clause-refused : goal.returns-in_err-find-clause-refused
 returns-in_err-find-clause-refused c = λ many.

@@ -1,10 +1,10 @@
 use Rattle.std.proofs.Common.{Err, ap, ◌≡◌, ◌<◌, ◌≤◌, ◌+◌, ℕ, length, subst, arith, rules}
 use Rattle.txc_rows.specs.declared.store_error.StoreError.TheVariants.{TooManyRows}
 use Rattle.txc_rows.specs.StorableVersions.{IsStorable}
-use Rattle.txc_rows.proofs.PutLemmas.{all_front, all_back}
 use Rattle.txc_rows.proofs.FindLemmas.{asked, found_latest, latest_many, replaced_few, replaced_many, passed_error}
 use Rattle.txc_rows.proofs.CurrentLemmas.{last_current}
 use Rattle.txc_rows.proofs.store.find_last.Goals as goal
+use Rattle.txc_tags.proofs.All.{all_front, all_back}
 
 -- of the last versions alone too many match
 pub returns-in_err-find_known-clause-refused : goal.returns-in_err-find_known-clause-refused

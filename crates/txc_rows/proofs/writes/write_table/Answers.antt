@@ -12,12 +12,12 @@ use Rattle.txc_rows.specs.declared.placed.Placed.{Placed}
 use Rattle.txc_rows.specs.Placed.{versions_by_place, AreBelow, AreWellPlaced, AreAll, AreAmong}
 use Rattle.txc_rows.specs.StoredVersion.{placed_all}
 use Rattle.txc_rows.specs.LatestTable.{latest_in, versions_of, IsCall, IsKept, HasWritten}
-use Rattle.txc_rows.proofs.PutLemmas.{all_front}
 use Rattle.txc_rows.proofs.HeldLemmas.{AreStorable, table_by, undone_call, refused_call, ended_call, recast_ok, recast_err}
 use Rattle.txc_rows.proofs.ChangeSteps.{longer_itself, longer_then}
 use Rattle.txc_rows.proofs.SweepCalls.{begun_base, begun_now}
 use Rattle.txc_rows.proofs.writes.write_table.Goals.{After-commit}
 use Rattle.txc_rows.proofs.writes.write_table.Goals as goal
+use Rattle.txc_tags.proofs.All.{all_front}
 
 -- a transaction begins with what there is
 begun_written : (next : ℕ) (replaced : List Placed) (h tx : Held MemStore) → (state over_memory tx).now ≡ (state over_memory h).now → IsKept h → AreWellPlaced (latest_in h) replaced → AreBelow next (latest_in h ++ replaced)

@@ -3,14 +3,14 @@ use Rattle.txc_db.specs.FrontsAndFeeds.{FrontValue}
 use Rattle.txc_txn_ports.specs.PortRequests.{TurnAddsSuch, MayAsk}
 use Rattle.txc_txn.specs.TxnCore.{CoreValue, IsTurn}
 use Rattle.txc_txn_ports.specs.Turns.{IsAsk}
-use Rattle.txc_txn.proofs.Offered.{adds_next, adds_none, is_answered, is_right, may_ask}
+use Rattle.txc_txn.proofs.Offered.{adds_next, adds_none, is_answered, is_right, may_ask, none_recorded}
 use Rattle.txc_txn_client.specs.Run.{HasBegun}
 use Rattle.txc_txn_client.specs.RoTxn.{RoTxnValue}
 use Rattle.txc_txn_client.proofs.Counting.{goes_down}
 use Rattle.txc_txn_client.proofs.Grown.{as_many, have_grown_self, have_grown_then, prefix_then}
 use Rattle.txc_txn_ports.specs.Turns.{PortTurn}
 use Rattle.txc_txn_client.proofs.Runs.{HasRunTo, run_begun, run_asked, run_ended}
-use Rattle.txc_txn_client.proofs.Turns.{history_stays, none_recorded, recorded_on, recorded_stays, row_stays, settings_stay, settings_then}
+use Rattle.txc_txn_client.proofs.Turns.{history_stays, recorded_on, recorded_stays, row_stays, settings_stay, settings_then}
 use Rattle.txc_txn_client.proofs.calling.call_at.Goals as goal
 
 pub loop-turn-init : goal.loop-turn-init

@@ -2,8 +2,8 @@ use Rattle.std.proofs.Common.{sym, ap, subst}
 use Rattle.std.specs.Prelude.{All}
 use Rattle.txc_db.specs.History.{History}
 use Rattle.txc_txn_ports.specs.Answers.{IsFresh}
+use Rattle.txc_txn_ports.proofs.Pins.{fresh_pins}
 use Rattle.txc_txn.specs.TxnCore.{CoreValue}
-use Rattle.txc_txn_client.proofs.Values.{fresh_pins}
 use Rattle.txc_txn_client.proofs.client.begun.Goals as goal
 
 -- the core has seen what the front of its pins shows

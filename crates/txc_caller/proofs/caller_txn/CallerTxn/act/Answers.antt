@@ -2,6 +2,7 @@ use Rattle.std.proofs.Common.{◌≡◌, ◌∙◌, true, None, Option, Some, ap
 use Rattle.std.specs.Prelude.{IsSome}
 use Rattle.txc_tags.specs.Keys.{Call}
 use Rattle.txc_call_registry.specs.Objects.{AllIdle}
+use Rattle.txc_call_registry.proofs.Places.{some_of}
 use Rattle.txc_txn.specs.RunningTxn.{IsTxn, TxnValue}
 use Rattle.txc_call_ghosts.specs.Steps.{objects_after_ask}
 use Rattle.txc_caller.specs.NodeLookup.{IsComputedOnMiss}
@@ -11,7 +12,7 @@ use Rattle.txc_caller.specs.ComputedFunctions.{top_call, AsksNext, IsToldAfterAs
 use Rattle.txc_caller.proofs.Lent.{idle_objects, resting_idle, resting_runs}
 use Rattle.txc_caller.proofs.Requests.{going_ran, keeps_seen, keeps_self, keeps_then, of_call_ran}
 use Rattle.txc_caller.proofs.Letting.{grown_self}
-use Rattle.txc_caller.proofs.Some.{none_of, some_of}
+use Rattle.txc_caller.proofs.Some.{none_of}
 use Rattle.txc_caller.proofs.Telling.{follow_so, no_begun, told_so}
 use Rattle.txc_caller.specs.CallerAct.{step_error, CallerActTransition}
 use Rattle.txc_caller.proofs.Acting.{none_acts, ran_leads}

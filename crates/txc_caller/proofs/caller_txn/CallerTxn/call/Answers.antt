@@ -1,5 +1,6 @@
 use Rattle.std.proofs.Common.{◌≡◌, ◌∙◌, true, None, Option, Some, ap, refl, sym, subst}
 use Rattle.std.specs.Prelude.{IsSome}
+use Rattle.txc_call_registry.proofs.Places.{some_of}
 use Rattle.txc_tags.specs.Keys.{Call}
 use Rattle.txc_app.specs.declared.ask.Ask.TheVariants as asks
 use Rattle.txc_txn.specs.RunningTxn.{TxnValue}
@@ -9,7 +10,7 @@ use Rattle.txc_caller.specs.CallerTxn.{open_states, CallerValue, IsReadingStep, 
 use Rattle.txc_caller.specs.ComputedFunctions.{call_or, top_call, IsToldAfterAsk, ObjectsFollow}
 use Rattle.txc_caller.proofs.Lent.{resting_idle}
 use Rattle.txc_caller.proofs.Requests.{going_begun, keeps_begun, keeps_then, of_call_begun}
-use Rattle.txc_caller.proofs.Some.{none_of, some_of}
+use Rattle.txc_caller.proofs.Some.{none_of}
 use Rattle.txc_caller.proofs.Telling.{first_follow, first_told}
 use Rattle.txc_caller.specs.CallerAct.{step_error, CallerActTransition}
 use Rattle.txc_caller.proofs.Acting.{begun_leads}

@@ -4,11 +4,12 @@ use Rattle.txc_app.specs.Claims.{IsTrueIn, entry_shown}
 use Rattle.txc_db.specs.DatabaseValue.{DatabaseValue}
 use Rattle.txc_db.specs.declared.answered.Answered.{Answered}
 use Rattle.txc_node.specs.declared.hit.HitValue.{HitValue}
+use Rattle.txc_shared.proofs.Hits.{found_so}
 use Rattle.txc_txn_ports.specs.PortRequests.{MayAsk}
 use Rattle.txc_txn_ports.specs.declared.request.PortRequest.TheVariants as requests
 use Rattle.txc_txn_ports.specs.declared.reply.PortReply.TheVariants as replies
 use Rattle.txc_caller.specs.Ports.{CallerPorts, HasAskedPorts}
-use Rattle.txc_caller.proofs.Asked.{added_so, asked_add, asked_insert, asked_lookup, asked_pin, asked_query, asked_so, asked_unpin, found_so, hit_row, looked_up, pinned_grown, pinned_so, unpinned_so}
+use Rattle.txc_caller.proofs.Asked.{added_so, asked_add, asked_insert, asked_lookup, asked_pin, asked_query, asked_so, asked_unpin, hit_row, looked_up, pinned_grown, pinned_so, unpinned_so}
 use Rattle.txc_caller.proofs.Budgets.{inserted_ports, looked_ports}
 use Rattle.txc_caller.proofs.Letting.{let_go_grown, let_go_so}
 use Rattle.txc_caller.proofs.plain_ports.PlainPortsCallPorts.ask.Goals as goal

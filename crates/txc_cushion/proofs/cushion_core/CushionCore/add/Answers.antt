@@ -1,12 +1,13 @@
 use Rattle.std.proofs.Common.{◌≡◌, ◌∙◌, ◌<◌, ap, sym, refl, false, length, Some, arith}
 use Rattle.txc_db.specs.History.{moment_at}
+use Rattle.txc_db.proofs.Histories.{moment_stays}
 use Rattle.txc_cushion.specs.declared.pin.Pin.{Pin}
 use Rattle.txc_cushion.specs.declared.entry.PinEntry.{PinEntry}
 use Rattle.txc_cushion.specs.declared.limits.TheConstants.{MAX_PINS}
 use Rattle.txc_cushion.specs.Pin.{pin_of}
 use Rattle.txc_cushion.specs.Entries.{is_pinned, with_entry}
 use Rattle.txc_cushion.specs.Cushion.{CushionValue, longer_of}
-use Rattle.txc_cushion.proofs.Adding.{added_is, moment_stays, longer_is}
+use Rattle.txc_cushion.proofs.Adding.{added_is, longer_is}
 use Rattle.txc_cushion.proofs.cushion_core.CushionCore.add.Goals as goal
 
 pub put-requires-clause-absent : goal.put-requires-clause-absent

@@ -4,9 +4,9 @@ use Rattle.txc_rows.specs.Versions.{purged}
 use Rattle.txc_rows.specs.StorableVersions.{IsStorable}
 use Rattle.txc_rows.specs.Placed.{left_from, AreSwept}
 use Rattle.txc_rows.specs.LatestTable.{versions_of, IsStore}
-use Rattle.txc_rows.proofs.PutLemmas.{all_front}
 use Rattle.txc_rows.proofs.StoreLemmas.{purged_store}
 use Rattle.txc_rows.proofs.store.Store.purge.Goals as goal
+use Rattle.txc_tags.proofs.All.{all_front}
 
 pub sweep-requires : goal.sweep-requires
 sweep-requires c = all_front (λ x. IsStorable x.version) c.self.inside.latest c.self.inside.replaced c.self.invariant.0.apart.each

@@ -3,9 +3,9 @@ use Rattle.std.proofs.lemmas.Result.{err_from_is_err_and}
 use Rattle.std.specs.List.{AllByRecursion}
 use Rattle.txc_rows.specs.StorableVersions.{IsStorable}
 use Rattle.txc_rows.specs.Versions.{after_net}
-use Rattle.txc_rows.proofs.PutLemmas.{all_front}
 use Rattle.txc_rows.proofs.StoreLemmas.{written_store, unwritten_store}
 use Rattle.txc_rows.proofs.store.Store.write.Goals as goal
+use Rattle.txc_tags.proofs.All.{all_front}
 
 pub invariant_of-self : goal.invariant_of-self
 invariant_of-self c = ((c.in_err-kept_from.ensures.room c.self.inside.next_place c.self.invariant.0).store, rw (c.replace-known.ensures.after, c.new.ensures.items) tt, rw (c.replace-known.ensures.after, c.new.ensures.items) (search arith))

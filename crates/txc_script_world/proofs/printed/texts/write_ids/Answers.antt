@@ -4,8 +4,8 @@ use Rattle.std.specs.Fmt.{decimal}
 use Rattle.std.proofs.Output.{has_written_append, has_written_of_eq}
 use Rattle.std.proofs.lemmas.List.{take_all}
 use Rattle.txc_script_world.specs.TaskTexts.{ids_text}
-use Rattle.txc_script_world.proofs.WorldTexts.{join_others}
 use Rattle.txc_script_world.proofs.printed.texts.write_ids.Goals as goal
+use Rattle.txc_tags.proofs.TextJoined.{join_others}
 
 pub returns : goal.returns
 returns g c = λ plain ok.

@@ -18,10 +18,10 @@ loop-preserved g c =
     let taken = subst (HasTaken row mid new) step.field-0-is step.ensures.taken in
     let goes = subst (HasAdvanced (seeing c.loop.self c.advance.new.self.seen) mid.pass c.advance.new.self) step.field-0-is step.ensures.after in (
       step.field-0-0 ∷ before.0,
-      one_taken_more row old mid new before.0 step.field-0-0 step.field-0-1 before.1 c.advance.ensures.longer taken,
+      one_taken_more row old mid new before.0 step.field-0-0 step.field-0-1 before.1 c.advance.ensures.step.longer taken,
       omega (arith, before.2),
       omega (arith, before.3),
-      grown_then old mid new before.4 c.advance.ensures.longer,
+      grown_then old mid new before.4 c.advance.ensures.step.longer,
       more_of_its_own row old mid new c.loop.self c.advance.new.self c.advance.new.self.seen c.loop.taken step.field-0-0 step.field-0-1 before.4 before.5 taken goes step.ensures.shown,
     )
 
@@ -39,5 +39,5 @@ returns-in-Ok-Idle-clause-together g c =
 pub returns-in-Err-clause-together : goal.returns-in-Err-clause-together
 returns-in-Err-clause-together g c =
     let pass = c.loop.pass in
-    let others = left_by_others (g.J.Naming.node_histories pass.settings.number) pass c.advance.new.pass c.in-Err.error c.in-Err.ensures.left in
+    let others = left_by_others (g.J.Naming.node_histories pass.settings.number) pass c.advance.new.pass c.in-Err.error c.in-Err.ensures.step.left in
     stand_together c.args.pass.now pass c.advance.new.pass c.loop.self c.loop.taken c.loop.invariant.4 c.loop.invariant.5 others

@@ -9,8 +9,9 @@ use Rattle.txc_txn_ports.specs.declared.reply.PortReply.TheVariants as replies
 use Rattle.txc_txn_ports.specs.PortRequests.{IsReplyTo, MayAsk}
 use Rattle.txc_txn_ports.specs.Exchanges.{IsExchange}
 use Rattle.txc_shared.specs.Passes.{PassValue}
+use Rattle.txc_shared.proofs.Hits.{found_so}
 use Rattle.txc_txn_client.specs.Ports.{HaveGrown, IsCallAt, LookupLeaves, PassesAfter}
-use Rattle.txc_txn_client.proofs.Called.{called_at, found_so, looked_up, right_hit, row_of_hit}
+use Rattle.txc_txn_client.proofs.Called.{called_at, looked_up, right_hit, row_of_hit}
 use Rattle.txc_txn_client.proofs.Grown.{have_grown_self, one_has_grown, settings_stay}
 use Rattle.txc_txn_client.proofs.ports.Ports.ask.Goals as goal
 

@@ -3,6 +3,7 @@ use Rattle.std.specs.Result.{result_unwrap_or}
 use Rattle.txc_app.specs.Claims.{IsTrueIn, entry_shown}
 use Rattle.txc_db.specs.declared.answered.Answered.{Answered}
 use Rattle.txc_node.specs.declared.hit.HitValue.{HitValue}
+use Rattle.txc_shared.proofs.Hits.{found_so}
 use Rattle.txc_txn_ports.specs.declared.request.PortRequest.{PortRequest}
 use Rattle.txc_txn_ports.specs.declared.request.PortRequest.TheVariants as requests
 use Rattle.txc_txn_ports.specs.declared.reply.PortReply.TheVariants as replies
@@ -11,7 +12,7 @@ use Rattle.txc_world.specs.PortRequests.{IsAsked}
 use Rattle.txc_world.specs.Parts.{IsPartOf}
 use Rattle.txc_world.specs.Ports.{IsNodeOf, KeepsRow, PortsValue, whole_of}
 use Rattle.txc_world.proofs.AskLemmas.{asked_add, asked_insert, asked_lookup, asked_pin, asked_query, asked_unpin}
-use Rattle.txc_world.proofs.NodeLemmas.{found_part, found_so, looked_up, stays_inserted, stays_looked_up}
+use Rattle.txc_world.proofs.NodeLemmas.{found_part, looked_up, stays_inserted, stays_looked_up}
 use Rattle.txc_world.proofs.PortsLemmas.{keeps_node_from, keeps_same, led_from, node_from, ports_node_from}
 use Rattle.txc_world.proofs.ports.Ports.ask.Goals as goal
 
