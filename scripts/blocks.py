@@ -45,7 +45,7 @@ ROOT = Path(__file__).resolve().parent.parent
 PAGES = ("README.md", "docs/PYTHON.md", "docs/OPERATIONS.md", "docs/BINDINGS.md", "bindings/c/README.md", "bindings/python/README.md", "bindings/rust/README.md")
 # Commands that a session passes over, by how they begin, and why: they take more than four minutes, or don't end.
 LONG = {
-    "make try-library": "five minutes of one core; the session has the library that `make test` compiled by the same script",
+    "make try-library": "some four minutes of one core; the session has the library that `make test` compiled by the same script",
     "make library": "hours, if nothing is proved yet; the session has a library",
     "make demo": "goes on until Ctrl-C; bindings/python/tests/test_shop.py runs the shop",
     "python3 -m unittest": "several minutes; scripts/boundary.py runs it over the same library",

@@ -5,8 +5,9 @@
  * it closes the results with a matching tag. A lookup is answered with a result that holds at one of the stamps
  * it asks for, or with none.
  *
- * Link libtxc_c.a, which `make library` makes. docs/BINDINGS.md says what is proved of these calls, and
- * docs/SCRIPTS.md what they do, line by line: `txcache node` prints what they answer.
+ * Link libtxc_c.a, which `make library` makes. docs/promise/9.md has the contract of each call and what is only
+ * tested, docs/BINDINGS.md the return codes with what to do, and docs/SCRIPTS.md the calls of a node as lines that
+ * `txcache node` answers.
  *
  * What you owe, and nothing checks:
  *  1. Each pointer is to what its type says, and no call is given one thing twice. A handle is one that began as
@@ -109,8 +110,10 @@ enum {
     TXC_DONE = 0,            /* it was done; of a lookup, a hit */
     TXC_MISS = 1,            /* no entry of the key holds at a stamp that was asked for */
     TXC_KEPT = 2,            /* an entry of the key that begins there ends no earlier: it stays, and the new one is dropped */
-    TXC_NO_ROOM = 3,         /* a hit, but the value is longer than the buffer: *reach and *len are told, no byte is
-                              * written, and the entry stays. Ask again with that much room */
+    TXC_NO_ROOM = 3,         /* the value, or a row's body, is longer than the buffer: its length is written, and no byte of it. Else it
+                              * is as after TXC_DONE or TXC_ANSWERED: txc_finish has ended the function. With a buffer of that
+                              * length txc_answer gives the value of a site's call; a node's is had by txc_node_lookup again, a
+                              * row by txc_row_at again */
     /* Refusals. The node is as it was, nothing is counted, and nothing is written but *processed. Yet
      * txc_keep may have done a part of its work, and txc_begin may have had the node take events. */
     TXC_CLOSED = 4,          /* the handle has no node, or no site */
@@ -173,7 +176,8 @@ typedef struct {
                           * many, and they are stored until the site is closed */
     size_t capacity;     /* entries of the node, at most TXC_MAX_CAPACITY; 0: 65,536 */
     size_t recent;       /* events whose tags the node keeps, at most TXC_MAX_RECENT, which is the default */
-    uint64_t renew_after; /* a pin that is older than so many milliseconds is renewed */
+    uint64_t renew_after; /* before a query a transaction that only reads pins the present, if it may still read that and its newest
+                          * pin is more than so many milliseconds old. 0, the default: if that pin is of an earlier millisecond */
     size_t bytes;        /* the budget of the node: the values of its entries have at most so many bytes in all, after each call.
                           * Before it keeps a value it drops the entries that were used longest ago, as txc_site_trim does, until
                           * there is room. A value of more bytes is answered and not kept. 0: there is no budget, and nothing is
@@ -317,8 +321,9 @@ uint32_t txc_row_at(txc_site *site, txc_txn txn, size_t at, txc_row *row, uint8_
 uint32_t txc_answer(txc_site *site, txc_txn txn, uint8_t *value, size_t room, size_t *len);
 
 /* Says that the function that you compute gives these bytes. TXC_DONE gives the value of the outermost call; TXC_ANSWERED gives
- * the value to the function around. More than TXC_MAX_VALUE_LEN bytes are TXC_REFUSED, and the whole open call has ended. With
- * TXC_NO_MEMORY it is as it was.
+ * the value to the function around. After TXC_NO_ROOM the function has ended too: txc_answer gives the value, and a second
+ * txc_finish would end the function around. More than TXC_MAX_VALUE_LEN bytes are TXC_REFUSED, and the whole open call has ended.
+ * With TXC_NO_MEMORY it is as it was.
  * TXC_DONE, TXC_ANSWERED, TXC_NO_ROOM, TXC_NOT_OPEN, TXC_REFUSED or TXC_NO_MEMORY. */
 uint32_t txc_finish(txc_site *site, txc_txn txn, const uint8_t *bytes, size_t count, uint8_t *value, size_t room, size_t *len);
 
@@ -383,12 +388,13 @@ uint32_t txc_pin(txc_site *site, uint64_t moment, uint32_t *stamp);
  * are more than `age` milliseconds before `now`; and the versions of rows, the events that are not stored and the results go that no
  * transaction can read any more. Call it now and then: there is room for 1,024 pins. Work that was done before an error is written and
  * stays done.
- * TXC_DONE, TXC_NO_MEMORY or TXC_REFUSED. */
+ * TXC_DONE, TXC_NO_MEMORY, or TXC_REFUSED: the store of the rows, or the node, failed by itself. Call it again; if it fails again,
+ * close the site and open it anew. */
 uint32_t txc_keep(txc_site *site, uint64_t now, uint64_t age, txc_kept *kept);
 
 /* Trims the site's node as txc_node_trim does, whatever is open: call it after a txc_keep, or between other calls, and the results
  * take no more than a budget of bytes and what was inserted since. A result that was dropped is computed again when it is asked for.
- * TXC_DONE, TXC_NO_MEMORY or TXC_REFUSED. */
+ * TXC_DONE, TXC_NO_MEMORY, or TXC_REFUSED: the node failed by itself, as for txc_keep. */
 uint32_t txc_site_trim(txc_site *site, size_t most, size_t *dropped);
 
 /* Writes what the site's node holds in all.

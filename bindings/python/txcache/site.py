@@ -56,7 +56,8 @@ _FAILED = {  # what REFUSED means, by the call of the library
     "txc_query_rows": f"the query failed: more than {MAX_MATCHING:,} versions match, or the stamp at which the transaction began can be read no more",
     "txc_commit_write": "the commit failed since its store had no memory, and may be made again",
     "txc_pin": f"the present can't be pinned: 1,024 pins or {MAX_OPEN:,} stamps are held",
-    "txc_keep": "the site can't be tidied: its database is broken, or its store of rows failed",
+    "txc_keep": "the site can't be tidied: its database or its node is broken, or its store of rows failed",
+    "txc_site_trim": "the site can't be trimmed: its node is broken",
 }
 _EVENTS_FULL = "the {0:,} events that the site has room for are used up, or "  # before the cause, where a site stores its events
 _APPENDING = "txc_commit_write", "txc_pin"
@@ -381,6 +382,9 @@ class Site:
     With `max_bytes` the values of the node's results have at most so many bytes in all, after each call. Before it keeps a value it drops the results that
     were used longest ago, until there is room. A value of more bytes is answered and not kept.
 
+    Before a query a transaction that only reads pins the present, if it may still read that and its newest pin is more than `renew_after` milliseconds
+    old. The default is 20,000 here, and 0 in C and Rust.
+
     `store` is where the current rows are: "sql" is a table of SQLite in memory, and "plain" are ordered maps, in which a change takes a small part of
     the time. Both return the same."""
 
@@ -435,7 +439,7 @@ class Site:
 
     def keep(self, now, age):
         """Tidies, whatever is open: retires the pins that no transaction uses and that are more than `age` before `now`, both in milliseconds, and
-        drops what no transaction can read any more. Call it now and then."""
+        drops what no transaction can read any more. Call it now and then: there is room for 1,024 pins."""
         kept = _calls.Kept()
         self._do(_TXC.keep, _number(now, _U64), _number(age, _U64), kept)
         return Kept(kept.retired, kept.horizon, kept.swept)

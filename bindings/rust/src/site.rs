@@ -237,7 +237,8 @@ pub struct Settings {
     pub capacity: usize,
     /// How many events the node keeps the tags of; 0 is 4,096.
     pub recent: usize,
-    /// A pin that is older than so many milliseconds is renewed.
+    /// Before a query a transaction that only reads pins the present, if it may still read that and its newest pin is more than so
+    /// many milliseconds old. 0, the default: if that pin is of an earlier millisecond.
     pub renew_after: u64,
     /// How many bytes the values of the node's results have at most in all, after each call. Before the node keeps a value it drops
     /// the results that were used longest ago, until there is room. A value of more bytes is answered and not kept.
@@ -249,7 +250,7 @@ pub struct Settings {
 impl Site {
     /// Makes a database, and a node of so many entries that keeps the tags of the last `recent` events; 0 is 65,536 entries, and 4,096
     /// events. With no bound on its events, which are its commits and pins, they are not stored, and [`Site::keep`] lets go what no
-    /// transaction can read any more; else it has room for so many. A pin that is older than `renew_after` milliseconds is renewed.
+    /// transaction can read any more; else it has room for so many. `renew_after` is that of [`Settings`].
     pub fn new(events: Option<usize>, capacity: usize, recent: usize, renew_after: u64) -> Result<Site, Error> {
         Site::open(Settings { events, capacity, recent, renew_after, ..Settings::default() })
     }
@@ -332,7 +333,8 @@ impl Site {
     }
 
     /// Retires the pins that no transaction uses and that are more than `age` before `now`, both in milliseconds, and drops what no
-    /// transaction can read any more. Call it now and then, whatever is open: there is room for so many pins.
+    /// transaction can read any more. Call it now and then, whatever is open: there is room for 1,024 pins. It returns
+    /// [`Error::Refused`] if the store of the rows, or the node, failed by itself.
     pub fn keep(&self, now: u64, age: u64) -> Result<Kept, Error> {
         let mut kept = ffi::Kept {
             retired: 0,

@@ -13,4 +13,4 @@ mod reading;
 pub use error::ReadError;
 pub use page::{OneCall, Page};
 pub use page_txn::{Begun, PageTxn};
-pub use reading::{PageResult, read_page, read_page_keeping};
+pub use reading::{PageResult, read_page, read_page_leased};

@@ -58,7 +58,7 @@ pub fn read_page<'a, A: App, D: Definition, J: Naming, P: Page<A, D>, R: Wait>(
 
 /// Runs the page in a transaction of its own, which begins with those of the kept pins that its bounds allow.
 /// If these may not be used, it begins with others, which are kept from then on.
-pub fn read_page_keeping<'a, A: App, D: Definition, J: Naming, P: Page<A, D>, R: Wait>(
+pub fn read_page_leased<'a, A: App, D: Definition, J: Naming, P: Page<A, D>, R: Wait>(
     rt: &R,
     alloc: Global,
     client: Client<'a, A, Function<D>, J>,
@@ -87,12 +87,12 @@ pub fn read_page_keeping<'a, A: App, D: Definition, J: Naming, P: Page<A, D>, R:
     ensures functions { result.1.objects ≡ client.entry.objects }
     ensures renew_after { result.1.renew_after ≡ client.entry.renew_after }
 {
-    read_begun_keeping::<A, D, J, P, Brand, R>(rt, alloc, client, bounds, kept, page)
+    read_begun_leased::<A, D, J, P, Brand, R>(rt, alloc, client, bounds, kept, page)
 }
 
 /// Runs the page with kept pins, for the named client and bounds.
 #[tactic(auto, using(crate::proofs::Pages::none_have_grown, crate::proofs::Pages::page_refused))]
-fn read_begun_keeping<'a, A: App, D: Definition, J: Naming, P: Page<A, D>, B: Begun, R: Wait>(
+fn read_begun_leased<'a, A: App, D: Definition, J: Naming, P: Page<A, D>, B: Begun, R: Wait>(
     rt: &R,
     alloc: Global,
     client: Client<'a, A, Function<D>, J>,

@@ -25,7 +25,7 @@ use txc_db::Naming;
 use txc_node::Counts;
 use txc_site_keeper::{Keeper, SiteError};
 use txc_site_ledger::{Change, ChangeResult, CommitCounter, WriteError, write_change};
-use txc_site_pages::{Page, PageResult, ReadError, read_page, read_page_keeping};
+use txc_site_pages::{Page, PageResult, ReadError, read_page, read_page_leased};
 use txc_txn_client::{Client, PinLease};
 use txc_txn_ports::Bounds;
 
@@ -180,7 +180,7 @@ impl<'a, A: App, D: Definition, J: Naming> SiteClient<'a, A, D, J> {
             committer,
             tally,
         } = self;
-        let (shown, reader, kept) = read_page_keeping(rt, alloc, reader, bounds, kept, page);
+        let (shown, reader, kept) = read_page_leased(rt, alloc, reader, bounds, kept, page);
         tally.count_read(&shown);
         let client = SiteClient {
             foundation,

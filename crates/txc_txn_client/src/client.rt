@@ -159,7 +159,7 @@ impl<'a, A: App, C: Cacheable, J: Naming> Client<'a, A, C, J> {
             registry,
             renew_after,
         } = self;
-        let (begun, kept) = begun_keeping(rt, alloc, ports.len(), renew_after, &bounds, kept);
+        let (begun, kept) = begun_leased(rt, alloc, ports.len(), renew_after, &bounds, kept);
         match begun {
             Ok(core) => {
                 let txn = RoTxn {
@@ -314,7 +314,7 @@ fn begun_with(
 }
 
 // Makes a core with the kept pins that are fresh for its bounds.
-fn begun_keeping<'a, J: Naming>(
+fn begun_leased<'a, J: Naming>(
     rt: &impl Wait,
     alloc: Global,
     nodes: usize,

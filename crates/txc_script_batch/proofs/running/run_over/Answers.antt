@@ -3,12 +3,12 @@ use Rattle.std.specs.List.{All}
 use Rattle.std.proofs.lemmas.List.Elements.{All-weaker}
 use Rattle.txc_db.specs.FrontsAndFeeds.{FrontValue}
 use Rattle.txc_db.specs.DatabaseValue.{DatabaseValue}
+use Rattle.txc_db.proofs.Refusing.{passed_up}
 use Rattle.txc_call_registry.specs.Objects.{numbers_of}
 use Rattle.txc_shared.specs.Passes.{PassValue}
 use Rattle.txc_txn_client.specs.RoTxn.{ClientValue}
 use Rattle.txc_work.specs.Batches.{job_numbers, IsResultOf, Meets, NamesOneOf}
 use Rattle.txc_work.specs.declared.job.Receipted.{Receipted}
-use Rattle.txc_work.proofs.Calls.{passed_on}
 use Rattle.txc_script_batch.specs.BatchStates.{BatchState}
 use Rattle.txc_script_batch.specs.WorkerFunctions.{numbers_in}
 use Rattle.txc_script_batch.specs.JobResults.{AgreesWith, HaveRun}
@@ -70,7 +70,7 @@ by_clients-requires g c = λ κs within.
 pub returns-in_err-ran-clause-named : goal.returns-in_err-ran-clause-named
 returns-in_err-ran-clause-named g c =
     subst (λ (b : BatchState). IfErr c.from_residual.result (NamesOneOf (job_numbers b.jobs))) c.batch.view_is
-    (passed_on c.from_residual.result c.in_err-ran.field-0.0 (NamesOneOf (job_numbers c.batch.inside.jobs.items)) c.from_residual.ensures.1 c.in_err-ran.ensures.named)
+    (passed_up c.from_residual.result c.in_err-ran.field-0.0 (NamesOneOf (job_numbers c.batch.inside.jobs.items)) c.from_residual.ensures.1 c.in_err-ran.ensures.named)
 
 pub results_agree-requires : goal.results_agree-requires
 results_agree-requires g c =

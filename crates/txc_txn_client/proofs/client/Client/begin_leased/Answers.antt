@@ -8,6 +8,6 @@ of_ok {A} {E} P r a is holds = subst (λ (it : Result A E). IfOk it P) is holds
 
 pub new-requires : goal.new-requires
 new-requires g c = record {
-  fits = of_ok _ _ _ c.in-Ok.is c.begun_keeping-begun.ensures.fits g.A.App.next c.self.inside.registry c.self.invariant;
-  holds = of_ok _ _ _ c.in-Ok.is c.begun_keeping-begun.ensures.holds g.A.App.next c.self.inside.registry;
+  fits = of_ok _ _ _ c.in-Ok.is c.begun_leased-begun.ensures.fits g.A.App.next c.self.inside.registry c.self.invariant;
+  holds = of_ok _ _ _ c.in-Ok.is c.begun_leased-begun.ensures.holds g.A.App.next c.self.inside.registry;
 }

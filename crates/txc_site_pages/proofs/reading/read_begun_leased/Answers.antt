@@ -1,7 +1,7 @@
 use Rattle.txc_txn_client.specs.PinLease.{AreKept, HasBegunKept}
 use Rattle.txc_txn_client.specs.RoTxn.{RoTxnValue}
 use Rattle.txc_site_pages.proofs.Pages.{began_so}
-use Rattle.txc_site_pages.proofs.reading.read_begun_keeping.Goals as goal
+use Rattle.txc_site_pages.proofs.reading.read_begun_leased.Goals as goal
 
 -- where the page was shown, its transaction had begun
 pub returns-clause-kept : goal.returns-clause-kept
