@@ -1,5 +1,5 @@
 -- What comes of a reply keeps the frames and what holds of them.
-use Rattle.std.proofs.Common.{◌≡◌, inl, inr, ℕ, ◌+◌, ◌<◌, ◌≤◌, nat_le, List, [], ◌∷◌, ◌++◌, length, Option, Some, None, Ok, Err, sym, refl, subst, ◌∙◌, arith}
+use Rattle.std.proofs.Common.{◌≡◌, inl, inr, ℕ, ◌+◌, ◌<◌, ◌≤◌, nat_le, Bool, true, false, List, [], ◌∷◌, ◌++◌, length, Option, Some, None, Ok, Err, sym, refl, subst, ◌∙◌, arith}
 use Rattle.std.proofs.lemmas.Bool.Decides.{nat_tests}
 use Rattle.txc_stamp.specs.Interval.{Interval}
 use Rattle.txc_tags.specs.Keys.{Call}
@@ -162,7 +162,7 @@ module _ (next : Next) (top : Call) (H : History → Type 0) (W : ℕ → Type 0
       → due_ask next os frames need ≡ Some ask → FunctionExists (with_resumed os frames need) ask → AfterRan next.limits frames asked os need ask (Ok after)
       → Kept (standing frames asked need os) → Kept after
   ran_keeps law common frames asked os (needs.Begin c) ask after due there transition k = elim transition [
-    | inl no ↦ let no' : Ok after ≡ Err no.0 = no.1 in absurd (cc)
+    | inl failed ↦ let never : Ok after ≡ Err failed.0 = failed.1 in absurd (cc)
     | inr one ↦
         let free = free_below c.function frames os k.fits.1 k.fits.0.open_frames.free k.fits.2 in
         asking_keeps law frames asked (begun_frame c) ask (with_begun os c) after there record {
@@ -175,7 +175,7 @@ module _ (next : Next) (top : Call) (H : History → Type 0) (W : ℕ → Type 0
   ]
   ran_keeps law common [] asked os (needs.Resume x) ask after due there transition k = absurd transition
   ran_keeps law common (frame ∷ outer) asked os (needs.Resume x) ask after due there transition k = elim transition [
-    | inl no ↦ let no' : Ok after ≡ Err no.0 = no.1 in absurd (cc)
+    | inl failed ↦ let never : Ok after ≡ Err failed.0 = failed.1 in absurd (cc)
     | inr one ↦
         let waits = k.fits.0.1 in
         let here = k.within common.0 common.1 in

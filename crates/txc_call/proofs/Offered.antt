@@ -88,7 +88,7 @@ module _ (next : Next) (B A : Standing → Type 0) (ran : EachAskKeeps next B A)
       → B (standing (frame ∷ outer) asked (needs.Resume x) os)
       → AnswerTransition next outer asked frame x os (outwards next outer asked (given frame x.reach x.tags) (Ok s)) (Ok s) → A s
   answer_keeps outer asked frame x os on held transition = elim transition [
-    | inl no ↦ let no' : Ok s ≡ Err no.0 = no.1 in absurd (cc)
+    | inl failed ↦ let never : Ok s ≡ Err failed.0 = failed.1 in absurd (cc)
     | inr next_one ↦
         ask_keeps outer asked (given frame x.reach x.tags) (with_answer os frame.key.function x.answer) on next_one.0
         (λ after there one. ran (frame ∷ outer) asked os (needs.Resume x) next_one.0 after next_one.1 there (inr one) held) next_one.2
@@ -101,7 +101,7 @@ module _ (next : Next) (B A : Standing → Type 0) (ran : EachAskKeeps next B A)
   pub reply_keeps : (frames : List Frame) (asked : ℕ) (os : Objects) (need : Need) (reply : Reply)
       → (ReplyFits need reply → B (standing frames asked (need_after frames need reply) os)) → AfterReply next frames asked os need reply (Ok s) → A s
   reply_keeps frames asked os (needs.Lookup k) replies.Miss taken transition = elim transition [
-    | inl no ↦ let no' : Ok s ≡ Err no.0 = no.1 in absurd (cc)
+    | inl failed ↦ let never : Ok s ≡ Err failed.0 = failed.1 in absurd (cc)
     | inr first ↦
         ask_keeps frames asked (begun_frame k) (with_begun os k) (value_keeps frames (asked + 1)) first.0
         (λ after there one. ran frames asked os (needs.Begin k) first.0 after first.1 there (inr one) (taken tt)) first.2
@@ -120,11 +120,11 @@ Counts asked s = ((o : Outcome) × (s.need ≡ Some (needs.Value o))) ⊎ ((aske
 
 ran_counts : (next : Next) (before : ℕ) → EachAskKeeps next (λ (s : Standing). before ≤ s.asked) (Counts before)
 ran_counts next before frames asked os (needs.Begin k) ask after due there transition so_far = elim transition [
-  | inl no ↦ let no' : Ok after ≡ Err no.0 = no.1 in absurd (cc)
+  | inl failed ↦ let never : Ok after ≡ Err failed.0 = failed.1 in absurd (cc)
   | inr one ↦ let once = one_counts next.limits frames asked (begun_frame k) (with_begun os k) after ask one in (omega (arith, once.0), inr (omega (arith, once.0), omega (arith, once.0, once.1)))
 ]
 ran_counts next before (frame ∷ outer) asked os (needs.Resume x) ask after due there transition so_far = elim transition [
-  | inl no ↦ let no' : Ok after ≡ Err no.0 = no.1 in absurd (cc)
+  | inl failed ↦ let never : Ok after ≡ Err failed.0 = failed.1 in absurd (cc)
   | inr one ↦
       let once = one_counts next.limits outer asked (given frame x.reach x.tags) (with_answer os frame.key.function x.answer) after ask one in
       (omega (arith, once.0), inr (omega (arith, once.0), omega (arith, once.0, once.1)))

@@ -43,7 +43,7 @@ refused_with o error T is = subst (λ (p : Option CallError). UnlessRefused p (E
 passed_with : (o : Option CallError) (turn : Turn) (T : Type 0) → None ≡ o → T → UnlessRefused o turn T
 passed_with o turn T is h = subst (λ (p : Option CallError). UnlessRefused p turn T) is h
 
-order_let : (f : ℕ) (k : Call) (b : Bool) → nat_le f k.function ≡ b → order_refusal f k ≡ None → nat_le f k.function ≡ false
+pub order_let : (f : ℕ) (k : Call) (b : Bool) → nat_le f k.function ≡ b → order_refusal f k ≡ None → nat_le f k.function ≡ false
 order_let f k true is h = let no : Some (errors.CallOrder f k.function) ≡ None = rw is at h in absurd (cc)
 order_let f k false is h = is
 
