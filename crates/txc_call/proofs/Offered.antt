@@ -107,6 +107,7 @@ module _ (next : Next) (B A : Standing → Type 0) (ran : EachAskKeeps next B A)
         (λ after there one. ran frames asked os (needs.Begin k) first.0 after first.1 there (inr one) (taken tt)) first.2
   ]
   reply_keeps frames asked os (needs.Lookup k) (replies.Hit hit) taken transition = value_keeps frames asked (outcome_of k hit.value hit.reach hit.tags) os (taken tt) transition
+  reply_keeps [] asked os (needs.Query q) (replies.Found found) taken transition = absurd transition
   reply_keeps (frame ∷ outer) asked os (needs.Query q) (replies.Found found) taken transition =
       answer_keeps outer asked frame (rows_held found) os (value_keeps outer (asked + 1)) (taken tt) transition
   reply_keeps frames asked os (needs.Insert e) replies.Inserted taken transition = value_keeps frames asked (outcome_of e.key e.value e.reach e.tags) os (taken tt) transition
