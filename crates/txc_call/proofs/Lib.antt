@@ -4,5 +4,5 @@ pub mod OpenFrames
 pub mod Stacks
 pub mod Transitions
 pub mod OneAsk
-pub mod Keeping
 pub mod Offered
+pub mod Keeping

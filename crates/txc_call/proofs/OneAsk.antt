@@ -1,8 +1,9 @@
 -- The effect of one ask, before any other function continues.
-use Rattle.std.proofs.Common.{◌≡◌, ◌≢◌, inr, ℕ, ◌+◌, ◌<◌, nat_le, Bool, true, false, List, [], ◌∷◌, Option, Some, None, IsSome, Ok, Err, sym, refl, ap, subst, ◌∙◌}
+use Rattle.std.proofs.Common.{◌≡◌, ◌≢◌, inr, ℕ, ◌+◌, ◌<◌, nat_le, Bool, true, false, List, [], ◌∷◌, Option, Some, None, IsSome, Ok, Err, sym, refl, ap, subst, ◌∙◌, arith}
+use Rattle.std.proofs.lemmas.Bool.Decides.{nat_tests}
 use Rattle.txc_stamp.specs.Interval.{Interval}
 use Rattle.txc_tags.specs.Keys.{Call}
-use Rattle.std.specs.Prelude.{Result, if◌then◌else◌}
+use Rattle.std.specs.Prelude.{Result, if◌then◌else◌, is_some}
 use Rattle.txc_app.specs.declared.app.Limits.{Limits}
 use Rattle.txc_app.specs.declared.ask.Ask.{Ask}
 use Rattle.txc_app.specs.declared.ask.Ask.TheVariants as asks
@@ -12,6 +13,7 @@ use Rattle.txc_call_registry.specs.Objects.{Objects, activity_of, with_activity}
 use Rattle.txc_call.specs.declared.error.CallError.{CallError}
 use Rattle.txc_call.specs.declared.error.CallError.TheVariants as errors
 use Rattle.txc_call.specs.declared.frame.Frame.{Frame}
+use Rattle.txc_call.specs.declared.frames.TheConstants.{MAX_CALL_ASKS}
 use Rattle.txc_call.specs.declared.need.HeldAnswer.{HeldAnswer}
 use Rattle.txc_call.specs.declared.need.Need.{Need}
 use Rattle.txc_call.specs.declared.need.Need.TheVariants as needs
@@ -22,7 +24,7 @@ use Rattle.txc_call.specs.Reaches.{ReachesMeet}
 use Rattle.txc_call.specs.Frames.{given, AreFew}
 use Rattle.txc_call.specs.Needs.{NeedFits, ReplyFits}
 use Rattle.txc_call.proofs.Claims.{meets_none}
-use Rattle.txc_call.specs.CallSteps.{value_need, stays_held, is_done, need_after, objects_after, order_refusal, with_ask, form_refusal, AfterNeed, AfterRan, AfterOneAsk, NeedsFunction, FunctionExists}
+use Rattle.txc_call.specs.CallSteps.{value_need, stays_held, is_done, need_after, objects_after, order_refusal, with_ask, form_refusal, AfterNeed, AfterRan, AfterOneAsk, NeedsFunction}
 use Rattle.txc_call.specs.MachineTurn.{Onward, Standing, Turn, UnlessRefused, ask_refusal, call_refusal, count_refusal, entry_of_frame, needing, outwards, turn_of, unreached, with_answer, value_held, value_refusal, AfterReply, AllowedTransition, AskTransition, DoneTransition}
 
 -- ---- refusals
@@ -41,7 +43,7 @@ refused_with o error T is = subst (λ (p : Option CallError). UnlessRefused p (E
 passed_with : (o : Option CallError) (turn : Turn) (T : Type 0) → None ≡ o → T → UnlessRefused o turn T
 passed_with o turn T is h = subst (λ (p : Option CallError). UnlessRefused p turn T) is h
 
-order_let : (f : ℕ) (k : Call) (b : Bool) → nat_le f k.function ≡ b → order_refusal f k ≡ None → nat_le f k.function ≡ false
+pub order_let : (f : ℕ) (k : Call) (b : Bool) → nat_le f k.function ≡ b → order_refusal f k ≡ None → nat_le f k.function ≡ false
 order_let f k true is h = let no : Some (errors.CallOrder f k.function) ≡ None = rw is at h in absurd (cc)
 order_let f k false is h = is
 
@@ -65,6 +67,18 @@ module _ (objects : Objects) (f : ℕ) (k : Call) where
       let refusal : Some (errors.CallOrder f k.function) ≡ call_refusal objects f k = rw is refl in
       subst (λ (o : Option CallError). UnlessRefused o turn Y) refusal h'
   call_order false is turn X Y h none = let h' : UnlessRefused None turn X = rw is at h in absurd (none h')
+
+  there_by : (o : Option Activity) → (if is_some o then None else Some (errors.NoFunction k.function)) ≡ None → IsSome o
+  there_by (Some a) h = refl
+  there_by None h = absurd (cc)
+
+  -- a call that may be made
+  pub call_let : (b : Bool) → nat_le f k.function ≡ b → call_refusal objects f k ≡ None → (None ≡ order_refusal f k) × IsSome (activity_of objects k.function)
+  call_let true is may = let no : Some (errors.CallOrder f k.function) ≡ None = rw is at may in absurd (cc)
+  call_let false is may = (rw is refl, there_by (activity_of objects k.function) (rw is at may))
+
+within_budget : (most own all : ℕ) → count_refusal most own all ≡ None → all < MAX_CALL_ASKS
+within_budget most own all counted = grind (arith, nat_tests)
 
 module _ (limits : Limits) (outer : List Frame) (asked : ℕ) (frame : Frame) (objects : Objects) where
   -- ---- what a step gives
@@ -142,6 +156,27 @@ module _ (limits : Limits) (outer : List Frame) (asked : ℕ) (frame : Frame) (o
         let_by (form_refusal limits.value frame.key.function ask) s (AllowedTransition outer (asked + 1) frame ask objects (stays_held outer asked frame (Ok s)) (Ok s))
         ((let_by (count_refusal limits.asks frame.answers asked) s
         (UnlessRefused (form_refusal limits.value frame.key.function ask) (Ok s) (AllowedTransition outer (asked + 1) frame ask objects (stays_held outer asked frame (Ok s)) (Ok s))) transition).1)
+
+    -- an ask over a registry that was made
+    pub let_through : (ask : Ask) (goes_on : Onward) → AskTransition limits outer asked frame ask objects goes_on (Ok s)
+        → (None ≡ count_refusal limits.asks frame.answers asked) × (None ≡ ask_refusal limits objects frame.key.function ask) × AllowedTransition outer (asked + 1) frame ask objects goes_on (Ok s)
+    let_through ask goes_on transition =
+        let counted = let_by (count_refusal limits.asks frame.answers asked) s (UnlessRefused (ask_refusal limits objects frame.key.function ask) (Ok s) (AllowedTransition outer (asked + 1) frame ask objects goes_on (Ok s))) transition in
+        let may = let_by (ask_refusal limits objects frame.key.function ask) s (AllowedTransition outer (asked + 1) frame ask objects goes_on (Ok s)) counted.1 in
+        (sym counted.0, sym may.0, may.1)
+
+    once_done : (bytes : List ℕ) (r : Option Interval) → DoneTransition outer (asked + 1) frame r bytes (with_activity objects frame.key.function idle) (stays_held outer asked frame (Ok s)) (Ok s) → s.asked ≡ asked + 1
+    once_done bytes (Some r) transition = cc
+    once_done bytes None transition = cc
+
+    once : (ask : Ask) → AllowedTransition outer (asked + 1) frame ask objects (stays_held outer asked frame (Ok s)) (Ok s) → s.asked ≡ asked + 1
+    once (asks.Query q) transition = cc
+    once (asks.Call k) transition = cc
+    once (asks.Done bytes) transition = once_done bytes frame.reach transition
+
+    -- an ask counts, and was not one too many
+    pub one_counts : (ask : Ask) → AfterOneAsk limits outer asked frame ask objects (Ok s) → (s.asked ≡ asked + 1) × (asked < MAX_CALL_ASKS)
+    one_counts ask transition = (once ask (allowed_of ask transition).1, within_budget limits.asks frame.answers asked (counted_of ask transition))
 
     needs_by : (fs : List Frame) (n : ℕ) (need other : Need) (os : Objects) → Ok s ≡ needing fs n need os → s.need ≡ Some other → need ≡ other
     needs_by fs n need other os is needed =
@@ -317,28 +352,6 @@ module _ (limits : Limits) (outer : List Frame) (asked : ℕ) (frame : Frame) (o
     pub begins_none : (ask : Ask) (k : Call) → s.need ≡ Some (needs.Begin k) → AfterOneAsk limits outer asked frame ask objects (Ok s) → ⊥
     begins_none ask k needed transition = begins_none_by ask k needed (allowed_of ask transition).1
 
-    -- ---- all functions exist
-
-    there_by : (ask : Ask) → FunctionExists objects ask → count_refusal limits.asks frame.answers asked ≡ None → form_refusal limits.value frame.key.function ask ≡ None
-        → AllowedTransition outer (asked + 1) frame ask objects (stays_held outer asked frame (Ok s)) (Ok s)
-        → AskTransition limits outer asked frame ask objects (stays_held outer asked frame (Ok s)) (Ok s)
-    there_by (asks.Query q) there counted may transition =
-        passed_with (count_refusal limits.asks frame.answers asked) (Ok s)
-        (UnlessRefused None (Ok s) (AllowedTransition outer (asked + 1) frame (asks.Query q) objects (stays_held outer asked frame (Ok s)) (Ok s))) (sym counted) transition
-    there_by (asks.Call k) there counted may transition =
-        let let_call : None ≡ call_refusal objects frame.key.function k = sym (call_there objects frame.key.function k (nat_le frame.key.function k.function) refl there ∙ may) in
-        passed_with (count_refusal limits.asks frame.answers asked) (Ok s)
-        (UnlessRefused (call_refusal objects frame.key.function k) (Ok s) (AllowedTransition outer (asked + 1) frame (asks.Call k) objects (stays_held outer asked frame (Ok s)) (Ok s))) (sym counted)
-        (passed_with (call_refusal objects frame.key.function k) (Ok s) (AllowedTransition outer (asked + 1) frame (asks.Call k) objects (stays_held outer asked frame (Ok s)) (Ok s)) let_call transition)
-    there_by (asks.Done bytes) there counted may transition =
-        passed_with (count_refusal limits.asks frame.answers asked) (Ok s)
-        (UnlessRefused (value_refusal limits.value bytes) (Ok s) (AllowedTransition outer (asked + 1) frame (asks.Done bytes) objects (stays_held outer asked frame (Ok s)) (Ok s))) (sym counted)
-        (passed_with (value_refusal limits.value bytes) (Ok s) (AllowedTransition outer (asked + 1) frame (asks.Done bytes) objects (stays_held outer asked frame (Ok s)) (Ok s)) (sym may) transition)
-
-    pub asks_there : (ask : Ask) → FunctionExists objects ask → AfterOneAsk limits outer asked frame ask objects (Ok s)
-        → AskTransition limits outer asked frame ask objects (stays_held outer asked frame (Ok s)) (Ok s)
-    asks_there ask there transition = there_by ask there (counted_of ask transition) (allowed_of ask transition).0 (allowed_of ask transition).1
-
 -- the objects after what was asked, by a test
 pub with_ask_by : (objects os : Objects) (f g : ℕ) (ask : Ask) (b : Bool) → g ≡ f → b ≡ is_done ask → os ≡ (if b then with_activity objects g idle else objects) → os ≡ with_ask objects f ask
 with_ask_by objects os f g ask b is done after =
@@ -372,27 +385,8 @@ pub replied_onward : (next : Next) (top : Call) (frames : List Frame) (asked : �
 replied_onward next top frames asked objects (needs.Lookup k) replies.Miss turn fits ok transition = transition
 replied_onward next top [] asked objects (needs.Lookup k) (replies.Hit hit) turn fits ok transition = transition
 replied_onward next top (frame ∷ outer) asked objects (needs.Lookup k) (replies.Hit hit) turn fits ok transition = transition
-replied_onward next top frames asked objects (needs.Lookup k) (replies.Found found) turn fits ok transition = absurd ok
-replied_onward next top frames asked objects (needs.Lookup k) replies.Inserted turn fits ok transition = absurd ok
 replied_onward next top [] asked objects (needs.Query q) (replies.Found found) turn fits ok transition = absurd (fits.1 refl)
 replied_onward next top (frame ∷ outer) asked objects (needs.Query q) (replies.Found found) turn fits ok transition = transition
-replied_onward next top frames asked objects (needs.Query q) replies.Miss turn fits ok transition = absurd ok
-replied_onward next top frames asked objects (needs.Query q) (replies.Hit hit) turn fits ok transition = absurd ok
-replied_onward next top frames asked objects (needs.Query q) replies.Inserted turn fits ok transition = absurd ok
 replied_onward next top [] asked objects (needs.Insert e) replies.Inserted turn fits ok transition = transition
 replied_onward next top (frame ∷ outer) asked objects (needs.Insert e) replies.Inserted turn fits ok transition = transition
-replied_onward next top frames asked objects (needs.Insert e) replies.Miss turn fits ok transition = absurd ok
-replied_onward next top frames asked objects (needs.Insert e) (replies.Hit hit) turn fits ok transition = absurd ok
-replied_onward next top frames asked objects (needs.Insert e) (replies.Found found) turn fits ok transition = absurd ok
-replied_onward next top frames asked objects (needs.Value o) replies.Miss turn fits ok transition = absurd ok
-replied_onward next top frames asked objects (needs.Value o) (replies.Hit hit) turn fits ok transition = absurd ok
-replied_onward next top frames asked objects (needs.Value o) (replies.Found found) turn fits ok transition = absurd ok
-replied_onward next top frames asked objects (needs.Value o) replies.Inserted turn fits ok transition = absurd ok
-replied_onward next top frames asked objects (needs.Begin k) replies.Miss turn fits ok transition = absurd ok
-replied_onward next top frames asked objects (needs.Begin k) (replies.Hit hit) turn fits ok transition = absurd ok
-replied_onward next top frames asked objects (needs.Begin k) (replies.Found found) turn fits ok transition = absurd ok
-replied_onward next top frames asked objects (needs.Begin k) replies.Inserted turn fits ok transition = absurd ok
-replied_onward next top frames asked objects (needs.Resume x) replies.Miss turn fits ok transition = absurd ok
-replied_onward next top frames asked objects (needs.Resume x) (replies.Hit hit) turn fits ok transition = absurd ok
-replied_onward next top frames asked objects (needs.Resume x) (replies.Found found) turn fits ok transition = absurd ok
-replied_onward next top frames asked objects (needs.Resume x) replies.Inserted turn fits ok transition = absurd ok
+replied_onward next top frames asked objects need reply turn fits ok transition = absurd ok

@@ -38,12 +38,12 @@ pub record IsAdmitted (n : NodeValue) (p : PassValue) : Type 0 where
 
 -- A call through a pass, whatever it returns: the node's history has the name of its number, and the pass has seen
 -- no less than before. After an error, which the node or the pass may give, each is left as that error says.
-pub record IsStepThrough {T : Type 0} (refused : NodeValue → NodeError → Type 0) (histories : ℕ → Name)
+pub record IsStepThrough {T : Type 0} (errors : NodeValue → NodeError → Type 0) (histories : ℕ → Name)
     (old new : NodeValue) (before after : PassValue) (result : Result T NodeError) : Type 0 where
   pub named : old.name ≡ histories old.settings.number
   pub longer : HasGrown before after
   pub unchanged : IfErr result (IsNodeLeft old new)
-  pub refused : IfErr result (IsRefusedThrough refused old before)
+  pub refused : IfErr result (IsRefusedThrough errors old before)
   pub left : IfErr result (IsPassLeft (histories before.settings.number) before after)
 
 -- ---- records

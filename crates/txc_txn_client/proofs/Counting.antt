@@ -1,31 +1,21 @@
 -- How many requests of a call may follow at most.
-use Rattle.std.proofs.Common.{◌≡◌, ◌≢◌, ⊎_elim, ℕ, suc, ◌+◌, ◌-◌, ◌<◌, ◌≤◌, Bool, true, false, List, [], ◌∷◌, Option, Some, None, Ok, Err, refl, sym, ap, subst, ◌∙◌, arith, inl, inr}
-use Rattle.std.specs.Prelude.{◌⊎◌}
-use Rattle.std.proofs.lemmas.Bool.Decides.{nat_tests}
+use Rattle.std.proofs.Common.{◌≡◌, ◌≢◌, ⊎_elim, ℕ, suc, ◌+◌, ◌-◌, ◌<◌, ◌≤◌, Bool, true, false, List, [], ◌∷◌, Option, Some, None, Ok, Err, refl, sym, ap, subst, ◌∙◌, arith}
 use Rattle.txc_stamp.specs.Interval.{Interval}
 use Rattle.txc_tags.specs.Keys.{Call}
-use Rattle.txc_validity.specs.declared.answer.Found.{Found}
 use Rattle.txc_node.specs.declared.hit.HitValue.{HitValue}
 use Rattle.txc_cushion.specs.declared.pin.Pin.{Pin}
 use Rattle.txc_pinset.specs.Members.{PinSetValue, kept, narrowed}
-use Rattle.txc_app.specs.declared.app.Limits.{Limits}
-use Rattle.txc_app.specs.declared.ask.Ask.{Ask}
-use Rattle.txc_app.specs.declared.ask.Ask.TheVariants as asks
 use Rattle.txc_app.specs.Eval.{Next}
-use Rattle.txc_call_registry.specs.Objects.{Objects}
-use Rattle.txc_call.specs.declared.frame.Frame.{Frame}
 use Rattle.txc_call.specs.declared.frames.TheConstants.{MAX_CALL_ASKS}
 use Rattle.txc_call.specs.declared.need.Need.{Need}
 use Rattle.txc_call.specs.declared.need.Need.TheVariants as needs
 use Rattle.txc_call.specs.declared.need.Outcome.{Outcome}
 use Rattle.txc_call.specs.declared.reply.Reply.{Reply}
 use Rattle.txc_call.specs.declared.reply.Reply.TheVariants as replies
-use Rattle.txc_call.specs.MachineTurn.{Standing, Onward, UnlessRefused, count_refusal, ask_refusal, AllowedTransition, DoneTransition, AskTransition, AfterValue, AfterAsk, AfterMiss, AfterRows, AfterReply, next_ask, outcome_of, unreached, with_answer, with_begun}
-use Rattle.txc_call.specs.Frames.{begun_frame, given}
-use Rattle.txc_app.specs.declared.ask.Answer.TheVariants as answers
+use Rattle.txc_call.specs.MachineTurn.{AfterReply}
+use Rattle.txc_call.proofs.Offered.{reply_counts}
 use Rattle.txc_cushion.specs.Pin.{pin_of}
 use Rattle.txc_call.specs.MachineTurn.{Turn as CallTurn}
-use Rattle.txc_call.proofs.OneAsk.{let_by}
 use Rattle.txc_txn.specs.TxnCore.{CoreAsks, CoreValue, IsAnswered, IsNarrowed, IsPinningAt, IsTurn, PinningFits, PinsAfter, WaitsForPin}
 use Rattle.txc_txn.specs.RunningTxn.{TxnValue, IsTxn, HasGoneOn}
 use Rattle.txc_txn.specs.Transitions.{CallTransition, HitTransition, ReplyTransition, StandingTransition}
@@ -39,85 +29,6 @@ use Rattle.txc_txn_ports.specs.declared.turn.Turn.TheVariants as turns
 use Rattle.txc_txn.specs.declared.pinning.Pinning.{Pinning}
 use Rattle.txc_txn.specs.declared.pinning.PinStep.{PinStep}
 use Rattle.txc_txn.specs.declared.pinning.PinStep.TheVariants.{Asked, Adding, Dropping}
-
--- ---- a reply is counted
-
--- the call is done, or asked more often than so, and no more than it may
-abbrev pub Counts : ℕ → Standing → Type 0
-Counts asked s = ((o : Outcome) × (s.need ≡ Some (needs.Value o))) ⊎ ((asked < s.asked) × (s.asked ≤ MAX_CALL_ASKS))
-
-counts_more : (asked : ℕ) (s : Standing) → Counts (asked + 1) s → Counts asked s
-counts_more asked s = ⊎_elim (λ done. inl done) (λ (more : ((asked + 1) < s.asked) × (s.asked ≤ MAX_CALL_ASKS)). let less = more.0 in inr (omega (arith, less), more.1))
-
-within_budget : (most own all : ℕ) → count_refusal most own all ≡ None → all < MAX_CALL_ASKS
-within_budget most own all is = grind (arith, nat_tests)
-
--- it needs this, one ask later
-asked_once : (asked : ℕ) (s : Standing) → asked < MAX_CALL_ASKS → s.asked ≡ asked + 1 → Counts asked s
-asked_once asked s less is = inr (omega (arith, is), omega (arith, is, less))
-
-module _ (asked : ℕ) (s : Standing) (less : asked < MAX_CALL_ASKS) (frame : Frame) (outer : List Frame) (goes_on : Onward)
-    (on : (os : Objects) (bytes : List ℕ) → goes_on os bytes → Counts (asked + 1) s) where
-  done_counts : (bytes : List ℕ) (r : Option Interval) (os : Objects) → DoneTransition outer (asked + 1) frame r bytes os goes_on (Ok s) → Counts asked s
-  done_counts bytes (Some reach) os transition = let e : s.asked ≡ asked + 1 = cc in asked_once asked s less e
-  done_counts bytes None os transition = counts_more asked s (on os bytes transition)
-
-  allowed_counts : (ask : Ask) (os : Objects) → AllowedTransition outer (asked + 1) frame ask os goes_on (Ok s) → Counts asked s
-  allowed_counts (asks.Query q) os transition = let e : s.asked ≡ asked + 1 = cc in asked_once asked s less e
-  allowed_counts (asks.Call k) os transition = let e : s.asked ≡ asked + 1 = cc in asked_once asked s less e
-  allowed_counts (asks.Done bytes) os transition = done_counts bytes frame.reach _ transition
-
-ask_counts : (limits : Limits) (asked : ℕ) (s : Standing) (frame : Frame) (outer : List Frame) (goes_on : Onward)
-    → ((os : Objects) (bytes : List ℕ) → goes_on os bytes → Counts (asked + 1) s)
-    → (ask : Ask) (os : Objects) → AskTransition limits outer asked frame ask os goes_on (Ok s) → Counts asked s
-ask_counts limits asked s frame outer goes_on on ask os transition =
-    let counted = let_by (count_refusal limits.asks frame.answers asked) s (UnlessRefused (ask_refusal limits os frame.key.function ask) (Ok s) (AllowedTransition outer (asked + 1) frame ask os goes_on (Ok s))) transition in
-    let fine = let_by (ask_refusal limits os frame.key.function ask) s (AllowedTransition outer (asked + 1) frame ask os goes_on (Ok s)) counted.1 in
-    allowed_counts asked s (within_budget limits.asks frame.answers asked counted.0) frame outer goes_on on ask os fine.1
-
-module _ (next : Next) (s : Standing) where
-  value_counts : (frames : List Frame) (asked : ℕ) (o : Outcome) (os : Objects) → AfterValue next frames asked o os (Ok s) → Counts asked s
-  value_counts [] asked o os transition = let done : s.need ≡ Some (needs.Value o) = cc in inl (o, done)
-  value_counts (frame ∷ outer) asked o os transition =
-      let after : Frame = given frame o.reach o.tags in
-      let goes_on : Onward = λ idle_os bytes. AfterValue next outer (asked + 1) (unreached after bytes) idle_os (Ok s) in
-      let os' : Objects = with_answer os frame.key.function (answers.Value o.value) in
-      ⊎_elim
-      (λ no. let no' : Ok s ≡ Err no.0 = no.1 in cc)
-      (λ (three : (ask : Ask) × (next_ask next os frame (answers.Value o.value) ≡ Some ask) × AskTransition next.limits outer asked after ask os' goes_on (Ok s)).
-      ask_counts next.limits asked s after outer goes_on (λ idle_os bytes on. value_counts outer (asked + 1) (unreached after bytes) idle_os on) three.0 os' three.2)
-      transition
-
-  after_ask_counts : (outer : List Frame) (asked : ℕ) (frame : Frame) (ask : Ask) (os : Objects) → AfterAsk next outer asked frame ask os (Ok s) → Counts asked s
-  after_ask_counts outer asked frame ask os transition =
-      ask_counts next.limits asked s frame outer (λ idle_os bytes. AfterValue next outer (asked + 1) (unreached frame bytes) idle_os (Ok s))
-      (λ idle_os bytes on. value_counts outer (asked + 1) (unreached frame bytes) idle_os on) ask os transition
-
-  rows_count : (frames : List Frame) (asked : ℕ) (found : Found) (os : Objects) → AfterRows next frames asked found os (Ok s) → Counts asked s
-  rows_count [] asked found os transition = absurd transition
-  rows_count (frame ∷ outer) asked found os transition =
-      ⊎_elim
-      (λ no. let no' : Ok s ≡ Err no.0 = no.1 in cc)
-      (λ (three : (ask : Ask) × (next_ask next os frame (answers.Rows found.rows.items) ≡ Some ask)
-      × AfterAsk next outer asked (given frame (Some found.reach) found.tags) ask (with_answer os frame.key.function (answers.Rows found.rows.items)) (Ok s)).
-      after_ask_counts outer asked (given frame (Some found.reach) found.tags) three.0 (with_answer os frame.key.function (answers.Rows found.rows.items)) three.2)
-      transition
-
-  miss_counts : (frames : List Frame) (asked : ℕ) (k : Call) (os : Objects) → AfterMiss next frames asked k os (Ok s) → Counts asked s
-  miss_counts frames asked k os transition =
-      ⊎_elim
-      (λ no. let no' : Ok s ≡ Err no.0 = no.1 in cc)
-      (λ (three : (ask : Ask) × (next.says k.function k.args [] ≡ Some ask) × AfterAsk next frames asked (begun_frame k) ask (with_begun os k) (Ok s)).
-      after_ask_counts frames asked (begun_frame k) three.0 (with_begun os k) three.2)
-      transition
-
-  -- a reply to what a call needs
-  pub reply_counts : (frames : List Frame) (asked : ℕ) (os : Objects) (need : Need) (reply : Reply) → AfterReply next frames asked os need reply (Ok s) → Counts asked s
-  reply_counts frames asked os (needs.Lookup k) replies.Miss transition = miss_counts frames asked k os transition
-  reply_counts frames asked os (needs.Lookup k) (replies.Hit hit) transition = value_counts frames asked (outcome_of k hit.value hit.reach hit.tags) os transition
-  reply_counts frames asked os (needs.Query q) (replies.Found found) transition = rows_count frames asked found os transition
-  reply_counts frames asked os (needs.Insert e) replies.Inserted transition = value_counts frames asked (outcome_of e.key e.value e.reach e.tags) os transition
-  reply_counts frames asked os need reply transition = absurd transition
 
 -- ---- requests that may follow
 

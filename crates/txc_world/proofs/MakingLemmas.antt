@@ -16,6 +16,8 @@ use Rattle.txc_world.specs.declared.settings.WorldSettings.{WorldSettings}
 use Rattle.txc_world.specs.Parts.{IsPartOf}
 use Rattle.txc_stream.specs.Names.{HasRow}
 use Rattle.txc_world.specs.Ports.{ArePorts, IsNodeOf}
+use Rattle.txc_app.specs.Eval.{Next}
+use Rattle.txc_shared.proofs.Runs.{node_begins}
 use Rattle.txc_world.specs.NewWorld.{node_settings, AreNewNodes, IsNewNode}
 use Rattle.txc_world.proofs.PartLemmas.{part_itself}
 
@@ -39,21 +41,22 @@ new_nodes_push settings passes seen nodes n number is are new =
     each_push (λ k m. IsNewNode (node_settings settings k) settings.row_cap passes seen m) nodes n are
     (subst (λ (k : ℕ). IsNewNode (node_settings settings k) settings.row_cap passes seen n) (sym is) new)
 
-new_node_is : (settings : NodeSettings) (row_cap actors : ℕ) (whole : FrontValue) (n : NodeValue) → IsNewNode settings row_cap (actors + 1) whole n
-    → IsNodeOf whole actors n
-new_node_is settings row_cap actors whole n new = record {
+new_node_is : (next : Next) (settings : NodeSettings) (row_cap actors : ℕ) (whole : FrontValue) (n : NodeValue) → IsNewNode settings row_cap (actors + 1) whole n
+    → IsNodeOf next whole actors n
+new_node_is next settings row_cap actors whole n new = record {
   kind = subst HasRow (sym new.name) tt;
   begun = new.begun;
   row = ap (λ (f : FrontValue). f.events) new.seen_is;
   seen = λ w. subst (IsPartOf whole) (sym new.seen_is) (part_itself whole);
   passes = new.passes_are;
+  sound = rw (new.begun, new.settings_are, new.records, new.cache, new.whole) (node_begins next n.seen.history settings.capacity settings.recent 0 (omega arith));
 }
 
-pub new_ports : (settings : WorldSettings) (d : DatabaseValue) (front : FrontValue) (cushion : CushionValue) (nodes : List NodeValue) (spare : List Pinned) (actors : ℕ)
+pub new_ports : (next : Next) (settings : WorldSettings) (d : DatabaseValue) (front : FrontValue) (cushion : CushionValue) (nodes : List NodeValue) (spare : List Pinned) (actors : ℕ)
     → front ≡ front_of d → cushion ≡ empty_cushion front → AreNewNodes settings (actors + 1) (front_of d) nodes → spare ≡ []
-    → ArePorts (record { database = d; cushion = cushion; nodes = nodes; spare = spare; actors = actors })
-new_ports settings d front cushion nodes spare actors front_is cushion_is new none = record {
+    → ArePorts next (record { database = d; cushion = cushion; nodes = nodes; spare = spare; actors = actors })
+new_ports next settings d front cushion nodes spare actors front_is cushion_is new none = record {
   cushion = subst (λ (c : CushionValue). IsPartOf (front_of d) (cushion_front c)) (sym cushion_is) (subst (IsPartOf (front_of d)) (sym front_is) (part_itself (front_of d)));
-  nodes = λ i n within. new_node_is (node_settings settings i) settings.row_cap actors (front_of d) (get_or nodes i n) (new i (get_or nodes i n) (slice_get-get_or nodes i n within));
+  nodes = λ i n within. new_node_is next (node_settings settings i) settings.row_cap actors (front_of d) (get_or nodes i n) (new i (get_or nodes i n) (slice_get-get_or nodes i n within));
   spare = subst (All (λ pinned. IsPartOf (front_of d) pinned.front)) (sym none) (λ i n within. absurd (omega (arith, within)));
 }

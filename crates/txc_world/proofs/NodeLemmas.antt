@@ -13,6 +13,7 @@ use Rattle.txc_node.specs.declared.entry.Entry.{Entry}
 use Rattle.txc_node.specs.declared.hit.HitValue.{HitValue}
 use Rattle.txc_node.specs.declared.op.Op.{Op}
 use Rattle.txc_node.specs.declared.op.Op.TheVariants.{Lookup, Sweep}
+use Rattle.txc_app.specs.Eval.{Next}
 use Rattle.txc_shared.specs.declared.advanced.Advanced.{Advanced}
 use Rattle.txc_shared.specs.declared.advanced.Advanced.TheVariants.{Taken, Idle}
 use Rattle.txc_shared.specs.declared.error.NodeError.{NodeError}
@@ -24,7 +25,7 @@ use Rattle.txc_stream.proofs.Offered.{longer_is}
 use Rattle.txc_world.specs.Parts.{IsPartOf}
 use Rattle.txc_world.specs.NodeSteps.{LookupTransition, InsertTransition, AdvanceTransition, SweepTransition}
 use Rattle.txc_stream.specs.Names.{HasRow}
-use Rattle.txc_world.specs.Ports.{IsNodeOf}
+use Rattle.txc_world.specs.Ports.{IsNodeOf, IsSoundNode}
 use Rattle.txc_world.proofs.PartLemmas.{part_itself}
 
 -- the longer of the whole and a part of it is the whole
@@ -55,9 +56,9 @@ pub record StaysNode (whole : FrontValue) (old new : NodeValue) : Type 0 where
   pub passes : new.passes ≡ old.passes
   pub seen : (old.broken ≡ false → IsPartOf whole old.seen) → new.broken ≡ false → IsPartOf whole new.seen
 
-pub node_stays : (whole : FrontValue) (actors : ℕ) (old new : NodeValue) → StaysNode whole old new → IsNodeOf whole actors old
-    → IsNodeOf whole actors new
-node_stays whole actors old new s n = record { kind = subst HasRow (sym s.name) n.kind; begun = s.from ∙ n.begun; row = s.row n.row; seen = s.seen n.seen; passes = s.passes ∙ n.passes }
+pub node_stays : {next : Next} (whole : FrontValue) (actors : ℕ) (old new : NodeValue) → StaysNode whole old new → IsSoundNode next new
+    → IsNodeOf next whole actors old → IsNodeOf next whole actors new
+node_stays whole actors old new s sound n = record { kind = subst HasRow (sym s.name) n.kind; begun = s.from ∙ n.begun; row = s.row n.row; seen = s.seen n.seen; passes = s.passes ∙ n.passes; sound = sound }
 
 module _ (whole : FrontValue) where
   pub stays_itself : (n : NodeValue) → StaysNode whole n n

@@ -22,12 +22,13 @@ use Rattle.txc_db.specs.Calls.{IsAnswerable, IsLeft, IsPinnable, IsQueryRefused}
 use Rattle.std.specs.List.{AllByRecursion}
 use Rattle.txc_cushion.specs.declared.error.AddError.{AddError}
 use Rattle.txc_cushion.specs.Cushion.{cushion_front}
+use Rattle.txc_app.specs.Eval.{Next}
 use Rattle.txc_shared.specs.Nodes.{NodeValue}
 use Rattle.txc_shared.specs.declared.advanced.Advanced.{Advanced}
 use Rattle.txc_shared.specs.declared.error.NodeError.{NodeError}
 use Rattle.txc_world.specs.NodeSteps.{AdvanceTransition}
 use Rattle.txc_world.specs.Parts.{IsPartOf}
-use Rattle.txc_world.specs.Ports.{PortsValue, whole_of, IsNodeOf, ArePorts, KeepsRow, HasLedNode}
+use Rattle.txc_world.specs.Ports.{PortsValue, whole_of, IsNodeOf, IsSoundNode, ArePorts, KeepsRow, HasLedNode}
 use Rattle.txc_world.specs.PortRequests.{AddTransition, HasPinned, QueryTransition}
 use Rattle.txc_world.specs.KeeperAtPorts.{stamps_of_pins, HasAddedSpare, HasPinnedSpare}
 use Rattle.txc_world.proofs.PartLemmas.{part_itself, part_then}
@@ -36,13 +37,13 @@ use Rattle.txc_world.proofs.NodeLemmas.{StaysNode, node_stays}
 -- ---- a node
 
 -- the ports with one node led on
-pub ports_with_node : (p : PortsValue) (i : ℕ) (old new : NodeValue) → ArePorts p → i < length p.nodes → old ≡ get_or p.nodes i old
-    → StaysNode (whole_of p) old new → ArePorts (record p { nodes = set p.nodes i new })
-ports_with_node p i old new are there at stays = record {
+pub ports_with_node : {next : Next} (p : PortsValue) (i : ℕ) (old new : NodeValue) → ArePorts next p → i < length p.nodes → old ≡ get_or p.nodes i old
+    → StaysNode (whole_of p) old new → IsSoundNode next new → ArePorts next (record p { nodes = set p.nodes i new })
+ports_with_node {next = next} p i old new are there at stays sound = record {
   cushion = are.cushion;
-  nodes = All-set (IsNodeOf (whole_of p) p.actors) p.nodes i new
-      (node_stays (whole_of p) p.actors old new stays
-      (subst (IsNodeOf (whole_of p) p.actors) (sym at) (All-get_or (IsNodeOf (whole_of p) p.actors) p.nodes i old there are.nodes)))
+  nodes = All-set (IsNodeOf next (whole_of p) p.actors) p.nodes i new
+      (node_stays (whole_of p) p.actors old new stays sound
+      (subst (IsNodeOf next (whole_of p) p.actors) (sym at) (All-get_or (IsNodeOf next (whole_of p) p.actors) p.nodes i old there are.nodes)))
       are.nodes;
   spare = are.spare;
 }
@@ -68,16 +69,17 @@ keeps_with_node p i old new at stays = record {
 
 module _ (p : PortsValue) (d : DatabaseValue) where
   -- the ports over a database of the same row whose history has grown
-  node_grows : (n : NodeValue) → IsPartOf (front_of d) (whole_of p) → IsNodeOf (whole_of p) p.actors n → IsNodeOf (front_of d) p.actors n
+  node_grows : {next : Next} (n : NodeValue) → IsPartOf (front_of d) (whole_of p) → IsNodeOf next (whole_of p) p.actors n → IsNodeOf next (front_of d) p.actors n
   node_grows n grown is = record {
     kind = is.kind;
     begun = is.begun;
     row = is.row ∙ grown.row;
     seen = λ w. part_then (front_of d) (whole_of p) n.seen grown (is.seen w);
     passes = is.passes;
+    sound = is.sound;
   }
 
-  pub ports_grow : IsPartOf (front_of d) (whole_of p) → ArePorts p → ArePorts (record p { database = d })
+  pub ports_grow : {next : Next} → IsPartOf (front_of d) (whole_of p) → ArePorts next p → ArePorts next (record p { database = d })
   ports_grow grown are = record {
     cushion = part_then (front_of d) (whole_of p) (cushion_front p.cushion) grown are.cushion;
     nodes = λ i n within. node_grows (get_or p.nodes i n) grown (are.nodes i n within);
@@ -130,16 +132,16 @@ module _ (p q : PortsValue) (same : p ≡ q) where
   keeps_grown_from d spare grown =
       subst (λ (v : PortsValue). KeepsRow v (record p { database = d; spare = spare })) same (keeps_grown p d spare grown)
 
-  pub ports_node_from : (at : ℕ) (old new : NodeValue) → ArePorts p → at < length q.nodes → old ≡ get_or p.nodes at old
-      → StaysNode (whole_of p) old new → ArePorts (record p { nodes = set p.nodes at new })
-  ports_node_from at old new are within is stays =
-      ports_with_node p at old new are (subst (λ (v : PortsValue). at < length v.nodes) (sym same) within) is stays
+  pub ports_node_from : {next : Next} (at : ℕ) (old new : NodeValue) → ArePorts next p → at < length q.nodes → old ≡ get_or p.nodes at old
+      → StaysNode (whole_of p) old new → IsSoundNode next new → ArePorts next (record p { nodes = set p.nodes at new })
+  ports_node_from at old new are within is stays sound =
+      ports_with_node p at old new are (subst (λ (v : PortsValue). at < length v.nodes) (sym same) within) is stays sound
 
-  pub node_from : (at : ℕ) (old : NodeValue) → ArePorts p → at < length q.nodes → old ≡ get_or p.nodes at old → IsNodeOf (whole_of q) q.actors old
-  node_from at old are within is =
+  pub node_from : {next : Next} (at : ℕ) (old : NodeValue) → ArePorts next p → at < length q.nodes → old ≡ get_or p.nodes at old → IsNodeOf next (whole_of q) q.actors old
+  node_from {next = next} at old are within is =
       let there : at < length p.nodes = subst (λ (v : PortsValue). at < length v.nodes) (sym same) within in
-      subst (λ (v : PortsValue). IsNodeOf (whole_of v) v.actors old) same
-      (subst (IsNodeOf (whole_of p) p.actors) (sym is) (All-get_or (IsNodeOf (whole_of p) p.actors) p.nodes at old there are.nodes))
+      subst (λ (v : PortsValue). IsNodeOf next (whole_of v) v.actors old) same
+      (subst (IsNodeOf next (whole_of p) p.actors) (sym is) (All-get_or (IsNodeOf next (whole_of p) p.actors) p.nodes at old there are.nodes))
 
   pub led_from : (at : ℕ) (transition : NodeValue → NodeValue → Type 0) (old new : NodeValue) → at < length q.nodes
       → old ≡ get_or p.nodes at old → transition old new → HasLedNode at transition q (record p { nodes = set p.nodes at new })
@@ -193,9 +195,9 @@ pub commit_part_of : (d new : DatabaseValue) (changes : List Change) → new ≡
 commit_part_of d new changes is = subst (λ (e : DatabaseValue). IsPartOf (front_of e) (front_of d)) (sym is) (commit_part d changes)
 
 -- the keeper has one pin more, of the whole as it then is
-pub ports_with_spare : (p : PortsValue) (d : DatabaseValue) (pinned : Pinned) (spare : List Pinned) → ArePorts p
+pub ports_with_spare : {next : Next} (p : PortsValue) (d : DatabaseValue) (pinned : Pinned) (spare : List Pinned) → ArePorts next p
     → IsPartOf (front_of d) (whole_of p) → pinned.front ≡ front_of d → spare ≡ p.spare ++ pinned ∷ []
-    → ArePorts (record p { database = d; spare = spare })
+    → ArePorts next (record p { database = d; spare = spare })
 ports_with_spare p d pinned spare are grown front is =
     let more = ports_grow p d grown are in
     record {
@@ -303,8 +305,8 @@ all_without P (x ∷ xs) zero h = h.1
 all_without P (x ∷ xs) (suc i) h = (h.0, all_without P xs i h.1)
 
 -- one pin of the keeper's is taken out
-pub ports_without_spare : (p : PortsValue) (i : ℕ) (spare : List Pinned) → ArePorts p → spare ≡ remove p.spare i
-    → ArePorts (record p { spare = spare })
+pub ports_without_spare : {next : Next} (p : PortsValue) (i : ℕ) (spare : List Pinned) → ArePorts next p → spare ≡ remove p.spare i
+    → ArePorts next (record p { spare = spare })
 ports_without_spare p i spare are is = record {
   cushion = are.cushion;
   nodes = are.nodes;
@@ -314,7 +316,7 @@ ports_without_spare p i spare are is = record {
     part : Pinned → Type 0
     part s = IsPartOf (whole_of p) s.front
 
-pub spare_is_part : (p : PortsValue) (i : ℕ) (pinned : Pinned) → ArePorts p → i < length p.spare → pinned ≡ get_or p.spare i pinned
+pub spare_is_part : {next : Next} (p : PortsValue) (i : ℕ) (pinned : Pinned) → ArePorts next p → i < length p.spare → pinned ≡ get_or p.spare i pinned
     → IsPartOf (whole_of p) pinned.front
 spare_is_part p i pinned are within is =
     subst (λ (s : Pinned). IsPartOf (whole_of p) s.front) (sym is) (All-get_or (λ s. IsPartOf (whole_of p) s.front) p.spare i pinned within are.spare)

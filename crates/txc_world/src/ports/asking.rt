@@ -62,7 +62,9 @@ impl<A: App> Ports<A> {
             PortRequest::Unpin(stamp) => PortReply::Unpin(self.unpin(stamp)),
             PortRequest::Lookup { node, key, lo, hi } => {
                 let at = &mut self.nodes[node];
-                PortReply::Lookup(at.lookup(alloc, pass, &key, lo, hi).unwrap_or(None))
+                let found = at.lookup(alloc, pass, &key, lo, hi);
+                at.is_sound();
+                PortReply::Lookup(found.unwrap_or(None))
             }
             PortRequest::Query { query, stamp } => PortReply::Query(self.find(
                 alloc, &query, stamp,
@@ -70,6 +72,7 @@ impl<A: App> Ports<A> {
             PortRequest::Insert { node, entry } => {
                 let at = &mut self.nodes[node];
                 let made = nodes::insert(alloc, at, pass, entry, seen);
+                at.is_sound();
                 PortReply::Insert(kept_after(made))
             }
         }

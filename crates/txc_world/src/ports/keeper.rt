@@ -148,7 +148,9 @@ impl<A: App> Ports<A> {
         }
         let keeper = self.actors;
         let node = &mut self.nodes[at];
-        match nodes::advance(alloc, node, keeper, &self.database) {
+        let advanced = nodes::advance(alloc, node, keeper, &self.database);
+        node.is_sound();
+        match advanced {
             Ok(advanced) => Reply::Advanced(advanced),
             Err(refusal) => Reply::Refused(Refusal::Node(refusal)),
         }
@@ -163,7 +165,9 @@ impl<A: App> Ports<A> {
         }
         let keeper = self.actors;
         let node = &mut self.nodes[at];
-        match node.sweep(alloc, keeper, horizon) {
+        let swept = node.sweep(alloc, keeper, horizon);
+        node.is_sound();
+        match swept {
             Ok(count) => Reply::Swept(count),
             Err(refusal) => Reply::Refused(Refusal::Node(refusal)),
         }

@@ -1,4 +1,4 @@
-use Rattle.std.proofs.Common.{◌≡◌, Some, Ok, sym, refl, ap, subst, ◌∙◌}
+use Rattle.std.proofs.Common.{◌≡◌, Some, Ok, sym, ap, subst, ◌∙◌}
 use Rattle.txc_call.specs.declared.need.Need.{Need}
 use Rattle.txc_call.specs.CallMachine.{Calling}
 use Rattle.txc_call.specs.CallSteps.{objects_after, AfterRan}
@@ -14,5 +14,5 @@ returns-in-Ok-clause-keeps c = λ next objects need is within calling asked ther
     (Ok (record { frames = new.frames; asked = new.asked; need = new.need; objects = objects_after objects v.frames need c.args.ask }))) c.self.view_is
     (subst (λ (n : Need). AfterRan c.args.limits c.self.inside.frames.stack c.self.inside.frames.asked objects n c.args.ask
     (Ok (record { frames = new.frames; asked = new.asked; need = new.need; objects = objects_after objects c.self.inside.frames.stack n c.args.ask }))) same (c.in-Ok.ensures.answer objects)) in
-    step_ran_keeps next c.args.limits within c.right_answers_give_the_value.ensures c.args.self.now c.args.self.now new objects need c.args.ask refl is calling c.requires.common asked there
+    step_ran_keeps next c.args.limits within c.right_answers_give_the_value.ensures c.args.self.now new objects need c.args.ask is calling c.requires.common asked there
     (c.in-Ok.ensures.same_top ∙ ap (λ (v : Calling). v.top) c.self.view_is) transition

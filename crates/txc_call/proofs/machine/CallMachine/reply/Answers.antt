@@ -1,10 +1,11 @@
-use Rattle.std.proofs.Common.{◌≡◌, ◌⊎◌, ◌<◌, Some, sym, ap, subst, ◌∙◌}
+use Rattle.std.proofs.Common.{◌≡◌, ◌⊎◌, inl, inr, ⊎_elim, ◌<◌, Some, sym, ap, subst, ◌∙◌}
 use Rattle.txc_tags.specs.Keys.{Call}
 use Rattle.txc_call.specs.declared.need.Need.TheVariants as needs
 use Rattle.txc_call.specs.declared.need.Outcome.{Outcome}
 use Rattle.txc_call.specs.CallMachine.{Calling}
 use Rattle.txc_call.specs.Needs.{NeedFits}
-use Rattle.txc_call.proofs.Keeping.{machine_keeps, reply_counts}
+use Rattle.txc_call.proofs.Keeping.{machine_keeps}
+use Rattle.txc_call.proofs.Offered.{reply_counts}
 use Rattle.txc_call.proofs.machine.CallMachine.reply.Goals as goal
 
 pub returns-in-Ok-clause-fits : goal.returns-in-Ok-clause-fits
@@ -35,4 +36,4 @@ returns-in-Ok-clause-unreached g c =
 pub returns-in-Ok-clause-counted : goal.returns-in-Ok-clause-counted
 returns-in-Ok-clause-counted g c =
     let counts = reply_counts g.A.App.next _ c.self.inside.frames.stack c.self.inside.frames.asked c.args.registry.now c.in-Some.need c.args.reply c.in-Ok.ensures.answer in
-    subst (λ (v : Calling). ((o : Outcome) × (Some c.in-Ok.next ≡ Some (needs.Value o))) ⊎ (v.asked < c.advance.new.frames.asked)) c.self.view_is counts
+    subst (λ (v : Calling). ((o : Outcome) × (Some c.in-Ok.next ≡ Some (needs.Value o))) ⊎ (v.asked < c.advance.new.frames.asked)) c.self.view_is (⊎_elim (λ done. inl done) (λ more. inr more.0) counts)

@@ -10,7 +10,7 @@ use Rattle.txc_txn_ports.specs.declared.reply.PortReply.TheVariants as replies
 use Rattle.txc_txn_ports.specs.PortRequests.{AddsSuch, MayAsk}
 use Rattle.txc_world.specs.PortRequests.{IsAsked}
 use Rattle.txc_world.specs.Parts.{IsPartOf}
-use Rattle.txc_world.specs.Ports.{IsNodeOf, KeepsRow, PortsValue, whole_of}
+use Rattle.txc_world.specs.Ports.{KeepsRow, PortsValue, whole_of}
 use Rattle.txc_world.proofs.AskLemmas.{asked_add, asked_insert, asked_lookup, asked_pin, asked_query, asked_unpin}
 use Rattle.txc_world.proofs.NodeLemmas.{found_part, looked_up, stays_inserted, stays_looked_up}
 use Rattle.txc_world.proofs.PortsLemmas.{keeps_node_from, keeps_same, led_from, node_from, ports_node_from}
@@ -43,11 +43,11 @@ invariant_of-self g c =
     let p : PortsValue = record { database = c.self.inside.database; cushion = c.self.inside.cushion; nodes = c.self.inside.nodes.items; spare = c.self.inside.spare.items; actors = c.self.inside.actors } in
     let q : PortsValue = c.args.self.now in
     let within : c.in-Lookup.node < length q.nodes = subst (MayAsk g.A.App.next q.database.events (length q.nodes) c.args.seen.now.history) c.in-Lookup.is c.requires.may in
-    let done = c.lookup.ensures in
-    let transition = looked_up c.args.pass c.in-Lookup.key c.in-Lookup.lo c.in-Lookup.hi c.index_mut-at.result.now c.lookup.new.self c.lookup.result done.after done.answer done.left done.refused in (
+    let done = c.lookup-found.ensures in
+    let transition = looked_up c.args.pass c.in-Lookup.key c.in-Lookup.lo c.in-Lookup.hi c.index_mut-at.result.now c.lookup-found.new.self c.lookup-found.result done.after done.answer done.left done.refused in (
       c.self.invariant.0,
-      ports_node_from p q c.self.view_is c.in-Lookup.node c.index_mut-at.result.now c.lookup.new.self c.self.invariant.1
-          within c.index_mut-at.ensures.value (stays_looked_up _ _ _ _ _ _ _ _ transition),
+      ports_node_from p q c.self.view_is c.in-Lookup.node c.index_mut-at.result.now c.lookup-found.new.self c.self.invariant.1
+          within c.index_mut-at.ensures.value (stays_looked_up _ _ _ _ _ _ _ _ transition) c.is_sound.ensures,
     )
 
 pub returns-in-Lookup : goal.returns-in-Lookup
@@ -55,21 +55,20 @@ returns-in-Lookup g c =
     let p : PortsValue = record { database = c.self.inside.database; cushion = c.self.inside.cushion; nodes = c.self.inside.nodes.items; spare = c.self.inside.spare.items; actors = c.self.inside.actors } in
     let q : PortsValue = c.args.self.now in
     let within : c.in-Lookup.node < length q.nodes = subst (MayAsk g.A.App.next q.database.events (length q.nodes) c.args.seen.now.history) c.in-Lookup.is c.requires.may in
-    let done = c.lookup.ensures in
+    let done = c.lookup-found.ensures in
     let old = c.index_mut-at.result.now in
-    let transition = looked_up c.args.pass c.in-Lookup.key c.in-Lookup.lo c.in-Lookup.hi old c.lookup.new.self c.lookup.result done.after done.answer done.left done.refused in
-    let new : PortsValue = record p { nodes = set p.nodes c.in-Lookup.node c.lookup.new.self } in
-    let keeps : KeepsRow q new = keeps_node_from p q c.self.view_is c.in-Lookup.node old c.lookup.new.self c.index_mut-at.ensures.value
+    let transition = looked_up c.args.pass c.in-Lookup.key c.in-Lookup.lo c.in-Lookup.hi old c.lookup-found.new.self c.lookup-found.result done.after done.answer done.left done.refused in
+    let new : PortsValue = record p { nodes = set p.nodes c.in-Lookup.node c.lookup-found.new.self } in
+    let keeps : KeepsRow q new = keeps_node_from p q c.self.view_is c.in-Lookup.node old c.lookup-found.new.self c.index_mut-at.ensures.value
     (stays_looked_up _ _ _ _ _ _ _ _ transition) in
-    let node : IsNodeOf (whole_of q) q.actors old =
-    node_from p q c.self.view_is c.in-Lookup.node old c.self.invariant.1 within c.index_mut-at.ensures.value in
-    let found = result_unwrap_or c.lookup.result None in
+    let node = node_from p q c.self.view_is c.in-Lookup.node old c.self.invariant.1 within c.index_mut-at.ensures.value in
+    let found = result_unwrap_or c.lookup-found.result None in
     subst (λ (r : PortRequest). IsAsked g.A.App.next c.args.pass c.args.seen.now r q new (replies.Lookup c.unwrap_or.result)) (sym c.in-Lookup.is)
     (subst (λ (hit : Option (Answered HitValue)). IsAsked g.A.App.next c.args.pass c.args.seen.now (requests.Lookup c.in-Lookup.node c.in-Lookup.key c.in-Lookup.lo c.in-Lookup.hi) q new (replies.Lookup hit)) (sym c.unwrap_or.ensures)
     (asked_lookup g.A.App.next c.args.pass c.args.seen.now q new keeps c.count_right.ensures c.in-Lookup.node c.in-Lookup.key c.in-Lookup.lo c.in-Lookup.hi found
-    (led_from p q c.self.view_is c.in-Lookup.node _ old c.lookup.new.self within c.index_mut-at.ensures.value transition)
-    (found_so (λ hit. IsTrueIn g.A.App.next hit.front.history (entry_shown c.in-Lookup.key hit.answer)) c.lookup.result done.right)
-    (found_part (whole_of q) old c.in-Lookup.lo c.in-Lookup.hi c.lookup.result node.seen done.front done.only_if)))
+    (led_from p q c.self.view_is c.in-Lookup.node _ old c.lookup-found.new.self within c.index_mut-at.ensures.value transition)
+    (found_so (λ hit. IsTrueIn g.A.App.next hit.front.history (entry_shown c.in-Lookup.key hit.answer)) c.lookup-found.result done.right)
+    (found_part (whole_of q) old c.in-Lookup.lo c.in-Lookup.hi c.lookup-found.result node.seen done.front done.only_if)))
 
 pub invariant_of-self-in-Insert : goal.invariant_of-self-in-Insert
 invariant_of-self-in-Insert g c =
@@ -80,7 +79,7 @@ invariant_of-self-in-Insert g c =
     let part : IsPartOf (whole_of p) c.args.seen.now = subst (λ (v : PortsValue). IsPartOf (whole_of v) c.args.seen.now) (sym c.self.view_is) c.requires.seen in (
       c.self.invariant.0,
       ports_node_from p q c.self.view_is c.in-Insert.node c.index_mut-at-in-Insert.result.now c.insert-made.new.node c.self.invariant.1
-          may.0 c.index_mut-at-in-Insert.ensures.value (stays_inserted _ _ _ _ _ _ _ part c.insert-made.ensures),
+          may.0 c.index_mut-at-in-Insert.ensures.value (stays_inserted _ _ _ _ _ _ _ part c.insert-made.ensures) c.is_sound-in-Insert.ensures,
     )
 
 pub returns-in-Insert : goal.returns-in-Insert
