@@ -23,6 +23,7 @@ TEMPLATE = ROOT / "docs/promise.in.md"
 FOLDER = ROOT / "docs/promise"
 HEADLINE = "PROMISE.md"
 SIGNS_PAGE = "promise/signs.md"
+BUILT_IN = {"×", "→"}  # signs of the language, which no file imports
 MADE = "<!-- Made by `make docs` from docs/promise.in.md and the crates. -->"
 # What stands in backticks and is a sign of a clause, or a part of one, is explained where it stands.
 SIGNS = re.compile(r"[^\w:]|^(?:result|record|data|abbrev|unfoldable|now|A|J|requires|Ok|Err|Result)$")
@@ -152,6 +153,7 @@ class Page:
         if self.name == SIGNS_PAGE:
             return HEAD_OF_SIGNS + "".join(self.book.signs)
         used = {it for _, name in self.library_names() for it in name.replace("◌", " ").split()}
+        used |= {it for it in BUILT_IN if any(it in word.shown for word in self.shown)}
         rows = [row for row in self.book.signs if used & set(said_in(row)) or "`λ x. t`" in row]
         return HEAD_OF_SIGNS + "".join(rows)
 
