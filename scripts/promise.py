@@ -153,7 +153,7 @@ class Page:
         if self.name == SIGNS_PAGE:
             return HEAD_OF_SIGNS + "".join(self.book.signs)
         used = {it for _, name in self.library_names() for it in name.replace("◌", " ").split()}
-        used |= {it for it in BUILT_IN if any(it in word.shown for word in self.shown)}
+        used |= {it for it in BUILT_IN if any(it in text for text in [word.shown for word in self.shown] + [text for _, text, _ in self.texts])}
         rows = [row for row in self.book.signs if used & set(said_in(row)) or "`λ x. t`" in row]
         return HEAD_OF_SIGNS + "".join(rows)
 
