@@ -110,11 +110,11 @@ enum {
     TXC_DONE = 0,            /* it was done; of a lookup, a hit */
     TXC_MISS = 1,            /* no entry of the key holds at a stamp that was asked for */
     TXC_KEPT = 2,            /* an entry of the key that begins there ends no earlier: it stays, and the new one is dropped */
-    TXC_NO_ROOM = 3,         /* the value, or a row's body, is longer than the buffer: its length is written, and no byte of it. Else it
-                              * is as after TXC_DONE or TXC_ANSWERED: txc_finish has ended the function. With a buffer of that
-                              * length txc_answer gives the value of a site's call; a node's is had by txc_node_lookup again, a
-                              * row by txc_row_at again */
-    /* Refusals. The node is as it was, nothing is counted, and nothing is written but *processed. Yet
+    TXC_NO_ROOM = 3,         /* the value, or a row's body, is longer than the buffer: its length is written, and no byte of it. All
+                              * else is as after TXC_DONE or TXC_ANSWERED: a lookup was a hit, and its entry stays; txc_finish has
+                              * ended the function. With a buffer of that length txc_answer gives the value of a site's call, and
+                              * txc_node_lookup that of a node, or txc_row_at the row, if called again */
+    /* Errors, 4 to 11: the node is as before, nothing is counted, and nothing is written but *processed. Yet
      * txc_keep may have done a part of its work, and txc_begin may have had the node take events. */
     TXC_CLOSED = 4,          /* the handle has no node, or no site */
     TXC_ALREADY_OPEN = 5,    /* the handle has a node or a site, which stays */
@@ -132,7 +132,8 @@ enum {
     TXC_MID_CALL = 15,       /* a call is open: finish it, give it up, or abort */
     TXC_REFUSED = 16,        /* the open call was refused, and is no more; or the query or change was. The transaction is open,
                               * and its answers are as before. Or none can begin now, or there is no such state to begin at */
-    TXC_CONFLICT = 18        /* what was read has changed: nothing is committed, and the transaction is open, to be aborted */
+    TXC_CONFLICT = 18        /* of txc_commit_write: another commit changed what this transaction read. Nothing is committed, and it
+                              * stays open until txc_abort; a further commit of it fails too */
 };
 
 /* A row, but for its body. */
@@ -221,8 +222,8 @@ uint32_t txc_node_open(txc_node *node, size_t capacity, size_t recent);
 uint32_t txc_node_close(txc_node *node);
 
 /* Looks for a result of the key that holds at some stamp from lo to hi, both included; of several the one that holds
- * longest. A hit writes the stamps on which it holds, the length of its value in bytes, and the value to the front of the
- * buffer, if it has room. No other answer writes. A hit is the most recently used entry from then on.
+ * longest. A hit writes the stamps on which it holds and the length of its value in bytes; TXC_DONE also the value, to the front
+ * of the buffer. TXC_NO_ROOM is a hit too. No other code writes. A hit is the most recently used entry from then on.
  * TXC_DONE, TXC_NO_ROOM, TXC_MISS, TXC_CLOSED, TXC_BAD_ARGUMENT or TXC_EMPTY_RANGE. */
 uint32_t txc_node_lookup(txc_node *node, const txc_key *key, uint32_t lo, uint32_t hi,
                          txc_reach *reach, uint8_t *value, size_t room, size_t *len);
@@ -373,8 +374,8 @@ uint32_t txc_put(txc_site *site, txc_txn txn, uint8_t table, uint32_t id, uint32
  * TXC_DONE, TXC_NOT_OPEN, TXC_BAD_ARGUMENT, TXC_REFUSED or TXC_NO_MEMORY. */
 uint32_t txc_remove(txc_site *site, txc_txn txn, uint8_t table, uint32_t id);
 
-/* Commits the changes, and writes the newest stamp that they leave. Any other code than TXC_DONE has committed nothing, and the transaction
- * stays open with its changes; of TXC_CONFLICT it can only be aborted.
+/* Commits the changes, and writes the newest stamp that they leave. With any other code than TXC_DONE nothing is committed, and the
+ * transaction stays open with its changes. After TXC_CONFLICT abort it: no further commit of it succeeds.
  * TXC_DONE, TXC_NOT_OPEN, TXC_MID_CALL, TXC_CONFLICT, TXC_NO_MEMORY, or TXC_REFUSED where there is no room for an event, or where
  * the store of the rows has no memory for its own work: that commit may be made again. */
 uint32_t txc_commit_write(txc_site *site, txc_txn txn, uint32_t *stamp);

@@ -135,7 +135,7 @@ class Looks(unittest.TestCase):
     def test_what_is_forgotten_begins_cold(self):
         it = self.follower("the first snapshot", "the first snapshot")
         it.look()
-        it.forget()
+        it.forget("a step was not done")
         self.assertEqual((it.numbers, it.look().number, self.store.marks[-1]), ([], 2, (None, True)))
 
     def test_where_nothing_changes_a_store_is_asked_for_a_new_one_in_time(self):
@@ -205,6 +205,19 @@ class Looks(unittest.TestCase):
         self.assertEqual([record.getMessage() for record in logged.records],
                          ["the cache begins cold: the first snapshot", "no snapshot was taken, and all are let go: a lock", "the database did not answer: away",
                           "the cache begins cold: another file"])
+
+    def test_a_cold_begin_after_a_look_that_failed_names_its_fault(self):
+        it = self.follower("the first snapshot", NotInstalled(["items: no trigger"]), SnapshotLost("away"), "the first snapshot", {"a"}, "another file")
+        logging.getLogger("txcache").setLevel(logging.NOTSET)
+        with self.assertLogs("txcache", logging.INFO) as logged:
+            it.look()
+            self.assertRaises(NotInstalled, it.look)
+            self.assertRaises(SnapshotLost, it.look)
+            steps = [it.look() for _ in range(3)]
+        fault = "a look failed: items: no trigger"
+        self.assertEqual([step.cold for step in steps], [fault, "", "another file"])
+        self.assertEqual([it for it in (record.getMessage() for record in logged.records) if "cold" in it],
+                         [f"the cache begins cold: {reason}" for reason in ("the first snapshot", fault, "another file")])
 
     def test_hold_has_a_limit(self):
         self.assertRaisesRegex(ValueError, "hold is 0 seconds", Follower, Told(), 0)

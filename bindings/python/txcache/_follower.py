@@ -42,6 +42,7 @@ class Follower:
         self._held: List[_Held] = []
         self._lock, self._looks = threading.Lock(), threading.Lock()
         self._mark: Any = None
+        self._forgotten = ""  # why the mark was dropped, until a snapshot is taken again
         self._number, self._aired, self._shown = 0, float("-inf"), float("-inf")
         self._uses: Dict[int, int] = {}
         self.oldest: Optional[int] = None  # the number from which on all snapshots are open
@@ -67,14 +68,14 @@ class Follower:
             except SnapshotLost as error:
                 LOG.warning("the database did not answer: %s", error)
                 raise
-            except Exception:
-                self.let_go()
-                self._mark = None
+            except Exception as error:
+                self.forget(f"a look failed: {str(error) or type(error).__name__}")
                 raise
             if found.tags is None:
+                found = found._replace(reason=self._forgotten or found.reason)
                 LOG.log(logging.INFO if self._mark is None else logging.WARNING, "the cache begins cold: %s", found.reason)
                 self.let_go()
-            self._mark = found.mark
+            self._mark, self._forgotten = found.mark, ""
             # of one server, what a later snapshot shows is no older
             self._shown = moment - found.delay if found.tags is None else max(self._shown, moment - found.delay)
             return self._taken(found.snapshot, moment, found.tags, found.reason)._replace(moment=self._shown)
@@ -171,10 +172,10 @@ class Follower:
         """Where the newest snapshot stands among the store's commits."""
         return self._mark
 
-    def forget(self) -> None:
-        """Has the next look begin cold."""
+    def forget(self, reason: str) -> None:
+        """Has the next look begin cold, for this reason."""
         self.let_go()
-        self._mark = None
+        self._mark, self._forgotten = None, reason
 
     @property
     def numbers(self) -> List[int]:

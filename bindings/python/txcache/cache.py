@@ -217,7 +217,7 @@ class TxCache:
                 return
             self._last_try = time.monotonic()
             if self._is_to_be_cold:
-                self._follower.forget()
+                self._follower.forget("the last step was not finished")
             try:
                 step = self._follower.look()
             except SnapshotLost as error:

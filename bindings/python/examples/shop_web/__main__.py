@@ -1,10 +1,6 @@
 """A small web shop whose page shows the same parts twice: by TxCache, all of one moment, and by a plain cache, whose parts are each of their own.
 
-usage: python3 examples/shop_web [--postgres DSN | --file FILE] [--port PORT] [--customers COUNT] [--pause SECONDS]
-  --postgres   a database in which the tables demo_products, demo_orders and demo_till are made; else a SQLite file
-  --file       where that lies, by default in a folder that goes with the program
-  --pause      how long each customer waits, about, before he buys again or returns something
-It serves http://127.0.0.1:PORT/ by the standard library's server with threads; /page.json has the same as numbers.
+It serves http://127.0.0.1:PORT/ by the standard library's server with threads; /page.json has the same as numbers. `--help` lists the options.
 """
 
 import argparse
@@ -124,12 +120,13 @@ class Handler(BaseHTTPRequestHandler):
 
 
 def main() -> None:
-    words = argparse.ArgumentParser(prog="python3 examples/shop_web", description=__doc__.partition("\n")[0])
-    words.add_argument("--postgres", metavar="DSN")
-    words.add_argument("--file")
-    words.add_argument("--port", type=int, default=8000)
-    words.add_argument("--customers", type=int, default=4)
-    words.add_argument("--pause", type=float, default=0.5)
+    words = argparse.ArgumentParser(prog="python3 examples/shop_web", description=__doc__.partition("\n")[0],
+                                    epilog="It counts the pages that were loaded; a browser loads the page again each second.")
+    words.add_argument("--postgres", metavar="DSN", help="connection string of a database, in which it makes the tables demo_products, demo_orders and demo_till; else a SQLite file")
+    words.add_argument("--file", help="path of the SQLite file; else one in a new folder, which is deleted at the end")
+    words.add_argument("--port", type=int, default=8000, help="port on 127.0.0.1 (%(default)s; 0: a free one)")
+    words.add_argument("--customers", type=int, default=4, metavar="COUNT", help="threads that buy and return (%(default)s)")
+    words.add_argument("--pause", type=float, default=0.5, metavar="SECONDS", help="about how long each of them waits between two purchases (%(default)s)")
     given = words.parse_args()
     with contextlib.ExitStack() as stack:
         where = given.postgres or given.file or f"{stack.enter_context(tempfile.TemporaryDirectory(prefix='shop-'))}/shop.db"
