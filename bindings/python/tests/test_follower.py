@@ -216,8 +216,8 @@ class Looks(unittest.TestCase):
             steps = [it.look() for _ in range(3)]
         fault = "a look failed: items: no trigger"
         self.assertEqual([step.cold for step in steps], [fault, "", "another file"])
-        self.assertEqual([it for it in (record.getMessage() for record in logged.records) if "cold" in it],
-                         [f"the cache begins cold: {reason}" for reason in ("the first snapshot", fault, "another file")])
+        self.assertEqual([(it.levelname, it.getMessage()) for it in logged.records if "cold" in it.getMessage()],
+                         [(level, f"the cache begins cold: {reason}") for level, reason in (("INFO", "the first snapshot"), ("WARNING", fault), ("WARNING", "another file"))])
 
     def test_hold_has_a_limit(self):
         self.assertRaisesRegex(ValueError, "hold is 0 seconds", Follower, Told(), 0)

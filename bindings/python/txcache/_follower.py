@@ -73,7 +73,7 @@ class Follower:
                 raise
             if found.tags is None:
                 found = found._replace(reason=self._forgotten or found.reason)
-                LOG.log(logging.INFO if self._mark is None else logging.WARNING, "the cache begins cold: %s", found.reason)
+                LOG.log(logging.WARNING if self._number else logging.INFO, "the cache begins cold: %s", found.reason)
                 self.let_go()
             self._mark, self._forgotten = found.mark, ""
             # of one server, what a later snapshot shows is no older
