@@ -2,7 +2,7 @@ pub mod AsBox
 pub mod SiteAsBox
 pub mod Made
 pub mod Asked
-pub mod Kept
+pub mod MaintenanceLemmas
 pub mod Staying
 pub mod Places
 pub mod Acting

@@ -1,5 +1,5 @@
 -- What a node shows of its entries stays true.
-use Rattle.std.proofs.Common.{◌≡◌, inl, inr, ℕ, zero, suc, ◌+◌, ◌-◌, ◌≤◌, List, [], ◌∷◌, length, drop, Bool, true, false, true≢false, cond, nat_lt, max, ◌&&◌, refl, sym, ap, subst, ◌∙◌, arith}
+use Rattle.std.proofs.Common.{◌≡◌, inl, inr, ℕ, zero, suc, ◌+◌, ◌-◌, ◌<◌, ◌≤◌, List, [], ◌∷◌, length, drop, Bool, true, false, true≢false, cond, nat_lt, max, ◌&&◌, refl, sym, ap, subst, ◌∙◌, arith}
 use Rattle.std.proofs.lemmas.Bool.Decides.{nat_tests}
 use Rattle.std.proofs.lemmas.Bool.{ltb-true, ltb-false, cases_lt}
 use Rattle.txc_stamp.specs.Interval.{Interval, closed_at}
@@ -167,7 +167,11 @@ true_after_replay law replays lost next L c e h some keeps within = go e.reach.s
         let here : IsTrueIn next L (ending e e.reach.known true) = subst (λ (b : Bool). IsTrueIn next L (ending e e.reach.known b)) is h in
         let count : length (last_of m c.recent) ≡ m = drop_length (length c.recent - m) c.recent (omega arith) ∙ omega (arith, few) in
         subst (IsShownTrue next L c.processed) (sym same) (elim (cases_lt c.processed e.reach.known) [
-          | inl below ↦
+          | inl above ↦
+              let none : last_of m c.recent ≡ [] = none_left (last_of m c.recent) (count ∙ omega (arith, above)) in
+              subst (λ (Ts : List (List Tag)). IsShownTrue next L c.processed (after_events (e.reach.known + 1) Ts e)) (sym none)
+              (still_shown next L c.processed e is some (subst (λ (k : ℕ). IsTrueIn next L (ending e k true)) (sym (max_left e.reach.known c.processed (omega arith))) here))
+          | inr below ↦
               let shown : IsShownTrue next L e.reach.known e =
               still_shown next L e.reach.known e is some (subst (λ (k : ℕ). IsTrueIn next L (ending e k true)) (sym (max_left e.reach.known e.reach.known (omega arith))) here) in
               let upto = keeps.upto in
@@ -176,8 +180,4 @@ true_after_replay law replays lost next L c e h some keeps within = go e.reach.s
               (drop_tags L (length c.recent - m) keeps.before c.recent (omega arith) keeps.tags) in
               subst (λ (k : ℕ). IsShownTrue next L k (after_events (e.reach.known + 1) (last_of m c.recent) e)) (omega (arith, count, below))
               (replayed law next L e.reach.known (e.reach.known + 1) (last_of m c.recent) e (omega arith) shown tags (omega (arith, count, below, within)))
-          | inr above ↦
-              let none : last_of m c.recent ≡ [] = none_left (last_of m c.recent) (count ∙ omega (arith, above)) in
-              subst (λ (Ts : List (List Tag)). IsShownTrue next L c.processed (after_events (e.reach.known + 1) Ts e)) (sym none)
-              (still_shown next L c.processed e is some (subst (λ (k : ℕ). IsTrueIn next L (ending e k true)) (sym (max_left e.reach.known c.processed (omega arith))) here))
         ])

@@ -8,7 +8,7 @@ use Rattle.txc_c.specs.declared.opened.Open.TheVariants.{Reading}
 use Rattle.txc_c.proofs.Asked.{asked_so}
 use Rattle.txc_c.proofs.Beginning.{caught_up, reading_begun, reading_not_begun}
 use Rattle.txc_c.proofs.Going.{begun_site, may_add}
-use Rattle.txc_c.proofs.Kept.{keeps_then}
+use Rattle.txc_c.proofs.MaintenanceLemmas.{keeps_then}
 use Rattle.txc_c.proofs.Places.{caller_site}
 use Rattle.txc_c.proofs.site.Site.begin.Goals as goal
 

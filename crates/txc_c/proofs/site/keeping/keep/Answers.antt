@@ -2,7 +2,7 @@ use Rattle.std.proofs.Common.{◌∙◌, inr, ap, refl}
 use Rattle.std.specs.Prelude.{Ok, Err}
 use Rattle.txc_caller.specs.Ports.{CallerPorts}
 use Rattle.txc_caller.proofs.Letting.{grown_then}
-use Rattle.txc_c.proofs.Kept.{keeps_then, kept_on, vacuumed_on}
+use Rattle.txc_c.proofs.MaintenanceLemmas.{keeps_then, kept_on, vacuumed_on}
 use Rattle.txc_c.proofs.site.keeping.keep.Goals as goal
 
 -- ---- what it came to
