@@ -111,8 +111,8 @@ enum {
     TXC_KEPT = 2,            /* an entry of the key that begins there ends no earlier: it stays, and the new one is dropped */
     TXC_NO_ROOM = 3,         /* a hit, but the value is longer than the buffer: *reach and *len are told, no byte is
                               * written, and the entry stays. Ask again with that much room */
-    /* Refusals. The node is as it was, nothing is counted, and nothing is written but *processed; but
-     * txc_keep may have done a part of its work. */
+    /* Refusals. The node is as it was, nothing is counted, and nothing is written but *processed. Yet
+     * txc_keep may have done a part of its work, and txc_begin may have had the node take events. */
     TXC_CLOSED = 4,          /* the handle has no node, or no site */
     TXC_ALREADY_OPEN = 5,    /* the handle has a node or a site, which stays */
     TXC_BAD_ARGUMENT = 6,    /* a number is above its limit, a size is wrong, a body is too long, or a tag is of no kind */
